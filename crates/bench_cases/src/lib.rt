@@ -1,0 +1,1 @@
+// Worked cases about the definitions of the other crates: see specs/.

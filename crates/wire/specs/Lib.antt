@@ -1,0 +1,6 @@
+pub mod Bytes
+pub mod Varint
+pub mod Writing
+pub mod Partial
+pub mod Units
+pub mod Claims

@@ -1,0 +1,177 @@
+// Variable-length integers (RFC 9000, section 16).
+ghost use mathlib.Core.Path.{_≡_};
+ghost use Prim.Native.Nat.{_+_, _≤_, _<_};
+ghost use lib.ListN.{length, take, drop};
+ghost use lib.Seq.{sets};
+ghost use Rattle.wire.specs.Bytes.{num, bytesOf};
+ghost use Rattle.wire.specs.Varint.{sizeOf, readVarint, leastSize, encode, largest};
+ghost use Rattle.wire.specs.Writing.{writing, writeVarint};
+use refusals::Refusal;
+
+// What stands at the front of some bytes.
+pub enum Varint {
+    Incomplete,
+    Whole { value: u64, size: usize },
+}
+
+pub enum Written {
+    Refused(Refusal),
+    Wrote(usize),
+}
+
+pub(crate) fn wide(b: u8) -> u64
+    ensures { λ r. ⌜ r ≡ b ⌝ }
+{
+    b as u64
+}
+
+// How many bytes a varint has, by its first byte.
+pub(crate) fn size_of(first: u8) -> usize
+    ensures { λ r. ⌜ r ≡ sizeOf first ⌝ }
+{
+    if first < 64 {
+        1
+    } else if first < 128 {
+        2
+    } else if first < 192 {
+        4
+    } else {
+        8
+    }
+}
+
+// The big-endian number of 2, of 4 and of 8 bytes.
+fn number2(s: &[u8], at: usize) -> u64
+    requires { ⌜ at + 2 ≤ length (now s) ⌝ }
+    ensures { λ r. ⌜ (r ≡ num (take 2 (drop at (now (s .entry))))) × (r < 65536) ⌝ }
+{
+    wide(s[at]) * 256 + wide(s[at + 1])
+}
+
+fn number4(s: &[u8], at: usize) -> u64
+    requires { ⌜ at + 4 ≤ length (now s) ⌝ }
+    ensures { λ r. ⌜ (r ≡ num (take 4 (drop at (now (s .entry))))) × (r < 4294967296) ⌝ }
+{
+    number2(s, at) * 65536 + number2(s, at + 2)
+}
+
+fn number8(s: &[u8], at: usize) -> u64
+    requires { ⌜ at + 8 ≤ length (now s) ⌝ }
+    ensures { λ r. ⌜ r ≡ num (take 8 (drop at (now (s .entry)))) ⌝ }
+{
+    number4(s, at) * 4294967296 + number4(s, at + 4)
+}
+
+pub fn read_varint(s: &[u8]) -> Varint
+    ensures { λ r. ⌜ r ≡ readVarint (now (s .entry)) ⌝ }
+{
+    let room = s.len();
+    if room == 0 {
+        return Varint::Incomplete;
+    }
+    let first = s[0];
+    if first < 64 {
+        return Varint::Whole {
+            value: wide(first),
+            size: 1,
+        };
+    }
+    if first < 128 {
+        if room < 2 {
+            return Varint::Incomplete;
+        }
+        return Varint::Whole {
+            value: number2(s, 0) % 16384,
+            size: 2,
+        };
+    }
+    if first < 192 {
+        if room < 4 {
+            return Varint::Incomplete;
+        }
+        return Varint::Whole {
+            value: number4(s, 0) % 1073741824,
+            size: 4,
+        };
+    }
+    if room < 8 {
+        return Varint::Incomplete;
+    }
+    Varint::Whole {
+        value: number8(s, 0) % 4611686018427387904,
+        size: 8,
+    }
+}
+
+// How many bytes the shortest varint of a number has.
+fn least_size(n: u64) -> usize
+    ensures { λ r. ⌜ r ≡ leastSize n ⌝ }
+{
+    if n < 64 {
+        1
+    } else if n < 16384 {
+        2
+    } else if n < 1073741824 {
+        4
+    } else {
+        8
+    }
+}
+
+// The last 2, 4 or 8 bytes of a number, big-endian.
+fn put2(out: &mut [u8], at: usize, n: u64)
+    requires { ⌜ (at + 2 ≤ length (now out)) × (n < 65536) ⌝ }
+    ensures { λ _. ⌜ now (out .exit) ≡ sets (now (out .entry)) at (bytesOf 2 n) ⌝ }
+{
+    out[at] = (n / 256) as u8;
+    out[at + 1] = (n % 256) as u8;
+}
+
+fn put4(out: &mut [u8], at: usize, n: u64)
+    requires { ⌜ (at + 4 ≤ length (now out)) × (n < 4294967296) ⌝ }
+    ensures { λ _. ⌜ now (out .exit) ≡ sets (now (out .entry)) at (bytesOf 4 n) ⌝ }
+{
+    put2(out, at, n / 65536);
+    put2(out, at + 2, n % 65536);
+}
+
+fn put8(out: &mut [u8], at: usize, n: u64)
+    requires { ⌜ at + 8 ≤ length (now out) ⌝ }
+    ensures { λ _. ⌜ now (out .exit) ≡ sets (now (out .entry)) at (bytesOf 8 n) ⌝ }
+{
+    put4(out, at, n / 4294967296);
+    put4(out, at + 4, n % 4294967296);
+}
+
+fn put_varint(out: &mut [u8], at: usize, n: u64)
+    requires { ⌜ (at + leastSize n ≤ length (now out)) × (n ≤ largest) ⌝ }
+    ensures { λ _. ⌜ now (out .exit) ≡ sets (now (out .entry)) at (encode n) ⌝ }
+{
+    if n <= 63 {
+        out[at] = n as u8;
+    } else if n <= 16383 {
+        put2(out, at, 16384 + n);
+    } else if n <= 1073741823 {
+        put4(out, at, 2147483648 + n);
+    } else {
+        put8(out, at, 13835058055282163712 + n);
+    }
+}
+
+// The shortest varint of a number, at a place of the output.
+pub fn write_varint(n: u64, out: &mut [u8], place: usize) -> Written
+    ensures { λ r. ⌜ writing r (now (out .exit)) ≡ writeVarint n (now (out .entry)) place ⌝ }
+{
+    if n > 4611686018427387903 {
+        return Written::Refused(Refusal::NUMBER_TOO_LARGE);
+    }
+    let size = least_size(n);
+    if place > out.len() {
+        return Written::Refused(Refusal::OUTPUT_TOO_SHORT);
+    }
+    if out.len() - place < size {
+        return Written::Refused(Refusal::OUTPUT_TOO_SHORT);
+    }
+    put_varint(out, place, n);
+    Written::Wrote(size)
+}
