@@ -1,11 +1,51 @@
 -- The tables hold, by computing the definitions. Assumes nothing.
-use mathlib.Core.Path.{refl}
+use mathlib.Core.Path.{_≡_, refl}
+use Prim.Native.Nat.{ℕ}
+use native.Mathlib.Omega.{arith}
+use mathlib.Core.Option.{none}
+use Rattle.refusals.specs.declared.Refusal.{Refusal}
 use Rattle.wire.specs.Bytes.{numFrom, num, bytesOf}
 use Rattle.wire.specs.Varint.{largest, sizeOf, valueOf, readVarint, encodeAs, leastWidth, encode}
 use Rattle.wire.specs.Writing.{refuses, writeAt, writeVarint}
+use Rattle.wire.specs.Partial.{partialOf, heldBytes, starts, isPartial, takenOf, takeVarint}
 use Rattle.wire.specs.Units.{isRequest, largestQuarter, quarterOf, streamOf}
-use Rattle.bench_cases.specs.Pins.{Pinned}
+use Rattle.capsule.specs.Grammar.{front, capsuleAt, cut, parts}
+use Rattle.capsule.specs.Kinds.{kindOf, reportBy, reportOf, forwardsBy, forwards, gathersBy, gathers}
+use Rattle.capsule.specs.Calls.{outputVerdict, lentVerdict, run}
+use Rattle.capsule.specs.declared.reader.Verdict.the-variants.{Accepted, Refused}
+use Rattle.capsule.specs.Book.{onlyIf, fromCapsules, fromTail, fromParts, forwarded, firstOf, completes, append, reported, onlyDelivered, endOf, newBook, bookVerdict, bookFeed, bookClose, bookCall}
+use Rattle.capsule.specs.Reader.{fresh, isOpening, openOf, isMakeablePhase, isMakeable, verdictOf, planValue, planHead, planLength, planType, planOf, heldOf, wrote, stored, fedBy, takeOf, feedBy, feedOf, endAt, closeOf, lengthOf, frontOf, feedReply, closeReply, readerCall}
+use Rattle.capsule_laws.specs.Claims.{leftBy, HandedOn, ifDelivered, delivered}
+use Rattle.bench_cases.specs.Starred.{outcomeOf, AllStarred}
+use Rattle.bench_cases.specs.Pins.{All, onTheWire, onStreams, bothRefused, unmakeable, onLists, Pinned, intermediary, refusedBetween}
+
+pub all-starred : AllStarred
+unfolding outcomeOf parts cut front capsuleAt readVarint sizeOf valueOf num numFrom kindOf reportBy reportOf reported forwardsBy forwards onlyIf fromCapsules fromTail fromParts forwarded endOf ifDelivered delivered
+all-starred = (refl, (refl, (refl, (refl, (refl, (refl, (refl, (refl, (refl, (refl, (refl, (refl, (refl, (refl, tt))))))))))))))
+
+on-the-wire : All onTheWire
+unfolding readVarint sizeOf valueOf num numFrom largest encode encodeAs leastWidth bytesOf writeVarint writeAt refuses quarterOf streamOf isRequest largestQuarter
+on-the-wire = (refl, (refl, (refl, (refl, (refl, (refl, (refl, (refl, (refl, (refl, (refl, (refl, (refl, (refl, (refl, (refl, (refl, (refl, (refl, (refl, (refl, (refl, (refl, (refl, (refl, (refl, (refl, tt)))))))))))))))))))))))))))
+
+on-streams : All onStreams
+unfolding outcomeOf parts cut front capsuleAt readVarint sizeOf valueOf num numFrom largest bytesOf partialOf heldBytes starts isPartial takenOf takeVarint kindOf reportBy reportOf reported forwardsBy forwards gathersBy gathers onlyIf fromCapsules fromTail fromParts forwarded onlyDelivered endOf ifDelivered delivered outputVerdict lentVerdict isOpening openOf isMakeablePhase isMakeable verdictOf planValue planHead planLength planType planOf heldOf wrote stored fedBy takeOf feedBy feedOf endAt closeOf
+on-streams = (refl, (refl, (refl, (refl, (refl, (refl, (refl, (refl, (refl, (refl, (refl, (refl, (refl, (refl, (refl, (refl, (refl, (refl, (refl, (refl, (refl, (refl, (refl, (refl, (refl, (refl, (refl, (refl, (refl, tt)))))))))))))))))))))))))))))
+
+on-unmakeable : All (bothRefused unmakeable)
+unfolding sizeOf largest starts isPartial isOpening isMakeablePhase isMakeable verdictOf feedBy feedOf closeOf
+on-unmakeable = (refl, (refl, (refl, (refl, (refl, (refl, (refl, (refl, (refl, (refl, (refl, (refl, (refl, (refl, (refl, (refl, (refl, (refl, (refl, (refl, (refl, (refl, (refl, (refl, tt))))))))))))))))))))))))
+
+on-lists : All onLists
+unfolding readVarint sizeOf valueOf num numFrom largest bytesOf partialOf heldBytes starts isPartial takenOf takeVarint kindOf reportBy reportOf forwardsBy forwards gathersBy gathers onlyIf onlyDelivered outputVerdict lentVerdict isOpening isMakeablePhase isMakeable verdictOf planValue planHead planLength planType planOf heldOf wrote stored fedBy takeOf feedBy feedOf endAt closeOf lengthOf frontOf feedReply closeReply readerCall run
+on-lists = (refl, (refl, (refl, tt)))
 
 pub pinned : Pinned
-unfolding readVarint sizeOf valueOf num numFrom largest encode encodeAs leastWidth bytesOf writeVarint writeAt refuses quarterOf streamOf isRequest largestQuarter
-pinned = (refl, (refl, (refl, (refl, (refl, (refl, (refl, (refl, (refl, (refl, (refl, (refl, (refl, (refl, (refl, (refl, (refl, (refl, (refl, (refl, (refl, (refl, (refl, (refl, (refl, (refl, (refl, tt)))))))))))))))))))))))))))
+pinned = (on-the-wire, on-streams, on-unmakeable, on-lists)
+
+-- demand 3's premise on buffers is met by a list with a 4, a 5 and calls after the close
+no-verdict {ℓ} : {X : Type ℓ} {r : Refusal} → Refused r ≡ Accepted → X
+no-verdict e = let z : _≡_ {A = ℕ} 0 1 = cc in absurd (let n : ⊥ = omega arith in n)
+
+pub handed-on : HandedOn none (newBook (intermediary 4)) (fresh (intermediary 4)) refusedBetween
+unfolding readVarint sizeOf valueOf num numFrom largest bytesOf partialOf heldBytes starts isPartial takenOf takeVarint kindOf reportBy reportOf forwardsBy forwards gathersBy gathers onlyIf onlyDelivered outputVerdict lentVerdict isOpening isMakeablePhase isMakeable verdictOf planValue planHead planLength planType planOf heldOf wrote stored fedBy takeOf feedBy feedOf endAt closeOf lengthOf frontOf feedReply closeReply readerCall newBook bookVerdict bookFeed bookClose bookCall append completes firstOf parts cut front capsuleAt endOf leftBy
+handed-on = (λ v. tt, (λ v. no-verdict v, (λ v. no-verdict v, (λ v. refl, (λ v. no-verdict v, tt)))))

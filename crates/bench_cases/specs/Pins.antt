@@ -1,7 +1,8 @@
 -- Cases that fix a reading of document 01 where no starred bench case does. One statement carries them: `Pinned`.
 use Prim.Native.Nat.{ℕ, _+_, _-_, _^_}
 use mathlib.Core.Path.{_≡_}
-use mathlib.Core.List.{List, [], _∷_}
+use mathlib.Core.Bool.{Bool, true, false}
+use mathlib.Core.List.{List, [], _∷_, _++_}
 use lib.ListN.{replicate}
 use Rattle.refusals.specs.Numbers.{refusal}
 use Rattle.wire.specs.declared.varint.Varint.{Varint}
@@ -15,6 +16,25 @@ use Rattle.wire.specs.declared.units.StreamOf.the-variants as stream
 use Rattle.wire.specs.Varint.{readVarint}
 use Rattle.wire.specs.Writing.{writing, writeVarint}
 use Rattle.wire.specs.Units.{quarterOf, streamOf}
+use Rattle.wire.specs.declared.partial.Partial.{Partial}
+use Rattle.wire.specs.Partial.{partial}
+use Rattle.capsule.specs.declared.opening.Role.{Role}
+use Rattle.capsule.specs.declared.opening.Role.the-variants.{Endpoint, Intermediary}
+use Rattle.capsule.specs.declared.opening.Opening.{Opening}
+use Rattle.capsule.specs.declared.opening.Report.the-variants.{Delivered, Dropped, Skipped, Passed}
+use Rattle.capsule.specs.declared.reader.Phase.{Phase}
+use Rattle.capsule.specs.declared.reader.Phase.the-variants.{InType, InLength, InValue}
+use Rattle.capsule.specs.declared.reader.Reader.{Reader}
+use Rattle.capsule.specs.declared.reader.Opened.{Opened}
+use Rattle.capsule.specs.declared.reader.Opened.the-variants as opened
+use Rattle.capsule.specs.declared.reader.Ended.the-variants.{Nothing, Capsule}
+use Rattle.capsule.specs.declared.reader.FeedAnswer.{FeedAnswer}
+use Rattle.capsule.specs.declared.reader.FeedAnswer.the-variants as fedAs
+use Rattle.capsule.specs.declared.reader.CloseAnswer.{CloseAnswer}
+use Rattle.capsule.specs.declared.reader.CloseAnswer.the-variants as closedAs
+use Rattle.capsule.specs.Calls.{Lent, lent, Call, feed, close, Reply, refused, fed, closed, run}
+use Rattle.capsule.specs.Reader.{opening, fresh, openOf, Feeding, feeding, feedOf, closing, closeOf, readerCall}
+use Rattle.bench_cases.specs.Starred.{Outcome, outcomeOf, outcome, S}
 
 pub data Pin : Type 0 where
   -- bytes, and what is read at their front
@@ -24,12 +44,26 @@ pub data Pin : Type 0 where
   -- a stream ID and its quarter, a quarter and its stream ID
   quarters : ℕ → QuarterOf → Pin
   streams : ℕ → StreamOf → Pin
+  -- what a whole stream comes to
+  lists : (role : Role) (limit : ℕ) (draft : Bool) (bytes : List ℕ) → Outcome → Pin
+  -- opening a reader
+  opens : (role : Role) (limit : ℕ) (draft : Bool) → Opened → Pin
+  -- a state, a piece and buffers; the state, the answer and the buffers afterwards
+  feeds : Reader → (piece : List ℕ) → Lent → Reader → FeedAnswer → Lent → Pin
+  closes : Reader → Reader → CloseAnswer → Pin
+  -- calls on a reader that was just opened, and their answers
+  answers : Opening → List Call → List Reply → Pin
 
 abbrev pub Holds : Pin → Type 0
 Holds (reads s r) = readVarint s ≡ r
 Holds (writes n out place r after) = writeVarint n out place ≡ writing r after
 Holds (quarters id r) = quarterOf (record { 0 = id }) ≡ r
 Holds (streams q r) = streamOf (record { 0 = q }) ≡ r
+Holds (lists role limit draft bytes o) = outcomeOf role limit draft bytes ≡ o
+Holds (opens role limit draft r) = openOf role limit draft ≡ r
+Holds (feeds r p b r′ a b′) = feedOf r p b ≡ feeding r′ a b′
+Holds (closes r r′ a) = closeOf r ≡ closing r′ a
+Holds (answers op cs rs) = run readerCall (fresh op) cs .1 ≡ rs
 
 abbrev pub All : List Pin → Type 0
 All [] = Unit {0}
@@ -73,5 +107,119 @@ onTheWire =
     ∷ streams 1 (stream.Is (record { 0 = 4 }))
     ∷ []
 
+-- ---- capsule streams
+
+abbrev endpoint : ℕ → Opening
+endpoint limit = opening Endpoint limit false
+
+abbrev pub intermediary : ℕ → Opening
+intermediary limit = opening Intermediary limit false
+
+abbrev state : Opening → Phase → Bool → Reader
+state op phase finished = record { opening = op; phase = phase; finished = finished }
+
+abbrev nines : ℕ → List ℕ
+nines n = replicate n 9
+
+abbrev pub onStreams : List Pin
+onStreams =
+    -- the draft type counts in any encoding, and only it
+    lists Endpoint 9 true (0xc0 ∷ 0 ∷ 0 ∷ 0 ∷ 0 ∷ 0xff ∷ 0x37 ∷ 0xa5 ∷ 1 ∷ 0x7a ∷ []) (outcome (Delivered 1 ∷ []) ((0x7a ∷ []) ∷ []) [] closedAs.Clean)
+    ∷ lists Endpoint 9 false (0xc0 ∷ 0 ∷ 0 ∷ 0 ∷ 0 ∷ 0xff ∷ 0x37 ∷ 0xa5 ∷ 1 ∷ 0x7a ∷ []) (outcome (Skipped 16725925 1 ∷ []) [] [] closedAs.Clean)
+    ∷ lists Endpoint 9 true (0x80 ∷ 0xff ∷ 0x37 ∷ 0xa4 ∷ 1 ∷ 0x7a ∷ []) (outcome (Skipped 16725924 1 ∷ []) [] [] closedAs.Clean)
+    -- the limit itself is within the limit
+    ∷ opens Endpoint 65535 false (opened.Ready (fresh (endpoint 65535)))
+    ∷ opens Endpoint 65536 false (opened.Refused (refusal 3))
+    ∷ lists Endpoint 3 false S (outcome (Delivered 3 ∷ Skipped 23 0 ∷ Skipped 64 2 ∷ Delivered 0 ∷ []) ((0x61 ∷ 0x62 ∷ 0x63 ∷ []) ∷ [] ∷ []) [] closedAs.Clean)
+    ∷ lists Endpoint 0 false (0 ∷ 0 ∷ []) (outcome (Delivered 0 ∷ []) ([] ∷ []) [] closedAs.Clean)
+    ∷ lists Endpoint 0 false (0 ∷ 1 ∷ 5 ∷ []) (outcome (Dropped 1 ∷ []) [] [] closedAs.Clean)
+    -- a reserved type is unknown; a zero length in two bytes ends a capsule
+    ∷ lists Intermediary 9 false (0x40 ∷ 0x40 ∷ 0 ∷ 0x17 ∷ 0x40 ∷ 0 ∷ []) (outcome (Passed 64 0 ∷ Passed 23 0 ∷ []) [] (0x40 ∷ 0x40 ∷ 0 ∷ 0x17 ∷ 0x40 ∷ 0 ∷ []) closedAs.Clean)
+    ∷ lists Endpoint 9 false (0 ∷ 0x40 ∷ 0 ∷ []) (outcome (Delivered 0 ∷ []) ([] ∷ []) [] closedAs.Clean)
+    -- an empty piece: nothing happens, or the refusal of any other
+    ∷ feeds (fresh (intermediary 2)) [] (lent (nines 2) (nines 8)) (fresh (intermediary 2)) (fedAs.Took 0 0 Nothing) (lent (nines 2) (nines 8))
+    ∷ feeds (fresh (intermediary 2)) [] (lent (nines 1) (nines 8)) (fresh (intermediary 2)) (fedAs.Refused (refusal 4)) (lent (nines 1) (nines 8))
+    ∷ feeds (fresh (intermediary 2)) [] (lent (nines 2) (nines 7)) (fresh (intermediary 2)) (fedAs.Refused (refusal 5)) (lent (nines 2) (nines 7))
+    ∷ feeds (state (intermediary 2) (InType (partial 0 0)) true) [] (lent [] []) (state (intermediary 2) (InType (partial 0 0)) true) (fedAs.Refused (refusal 2)) (lent [] [])
+    -- 4 and 5 go by the lengths alone, and 4 stands first; exactly piece + 8
+    ∷ feeds (fresh (intermediary 2)) (5 ∷ []) (lent (nines 1) []) (fresh (intermediary 2)) (fedAs.Refused (refusal 4)) (lent (nines 1) [])
+    ∷ feeds (fresh (intermediary 2)) (5 ∷ []) (lent (nines 2) (nines 8)) (fresh (intermediary 2)) (fedAs.Refused (refusal 5)) (lent (nines 2) (nines 8))
+    ∷ feeds (fresh (intermediary 2)) (5 ∷ []) (lent (nines 2) (nines 9)) (state (intermediary 2) (InLength 5 (partial 0 0)) false) (fedAs.Took 1 1 Nothing) (lent (nines 2) (5 ∷ nines 8))
+    ∷ feeds (fresh (endpoint 0)) (5 ∷ []) (lent [] []) (state (endpoint 0) (InLength 5 (partial 0 0)) false) (fedAs.Took 1 0 Nothing) (lent [] [])
+    ∷ feeds (fresh (endpoint 1)) (5 ∷ []) (lent [] []) (fresh (endpoint 1)) (fedAs.Refused (refusal 4)) (lent [] [])
+    -- a partial value stands at its places, the rest as lent; a longer one stores nothing
+    ∷ feeds (fresh (endpoint 6)) (0 ∷ 5 ∷ 0x61 ∷ 0x62 ∷ []) (lent (nines 7) []) (state (endpoint 6) (InValue 0 5 3) false) (fedAs.Took 4 0 Nothing) (lent (0x61 ∷ 0x62 ∷ nines 5) [])
+    ∷ feeds (state (endpoint 6) (InValue 0 5 3) false) (0x63 ∷ 0x64 ∷ 0x65 ∷ 0x66 ∷ []) (lent (0x61 ∷ 0x62 ∷ nines 5) []) (fresh (endpoint 6)) (fedAs.Took 3 0 (Capsule (Delivered 5))) (lent (0x61 ∷ 0x62 ∷ 0x63 ∷ 0x64 ∷ 0x65 ∷ nines 2) [])
+    ∷ feeds (fresh (endpoint 1)) (0 ∷ 2 ∷ 0x61 ∷ []) (lent (nines 2) []) (state (endpoint 1) (InValue 0 2 1) false) (fedAs.Took 3 0 Nothing) (lent (nines 2) [])
+    ∷ closes (state (endpoint 6) (InValue 0 5 3) false) (state (endpoint 6) (InValue 0 5 3) true) closedAs.Truncated
+    -- the last byte of the longest value reports the full length
+    ∷ feeds (state (endpoint 6) (InValue 5 (2 ^ 62 - 1) 1) false) (7 ∷ 8 ∷ []) (lent (nines 6) []) (fresh (endpoint 6)) (fedAs.Took 1 0 (Capsule (Skipped 5 (2 ^ 62 - 1)))) (lent (nines 6) [])
+    -- a header is not read out of a value
+    ∷ feeds (state (endpoint 6) (InValue 5 3 2) false) (0 ∷ 0 ∷ 0 ∷ 0 ∷ []) (lent (nines 6) []) (fresh (endpoint 6)) (fedAs.Took 2 0 (Capsule (Skipped 5 3))) (lent (nines 6) [])
+    -- a clean close inside a header, and between capsules
+    ∷ closes (state (endpoint 6) (InType (partial 1 0x40)) false) (state (endpoint 6) (InType (partial 1 0x40)) true) closedAs.Truncated
+    ∷ closes (state (endpoint 6) (InLength 5 (partial 0 0)) false) (state (endpoint 6) (InLength 5 (partial 0 0)) true) closedAs.Truncated
+    ∷ closes (fresh (endpoint 6)) (state (endpoint 6) (InType (partial 0 0)) true) closedAs.Clean
+    ∷ closes (state (endpoint 6) (InType (partial 0 0)) true) (state (endpoint 6) (InType (partial 0 0)) true) (closedAs.Refused (refusal 2))
+    ∷ []
+
+-- states that cannot be made: refused with 1, before 2, 4 and 5, and handed back
+abbrev pub unmakeable : List Reader
+unmakeable =
+    state (endpoint 0) (InType (partial 0 1)) false
+    ∷ state (endpoint 0) (InType (partial 2 0x10000)) false
+    ∷ state (endpoint 0) (InType (partial 1 0x3f)) true
+    ∷ state (endpoint 0) (InType (partial 8 0)) false
+    ∷ state (endpoint 0) (InType (partial 200 0)) false
+    ∷ state (endpoint 0) (InLength (2 ^ 62) (partial 0 0)) false
+    ∷ state (endpoint 0) (InLength 5 (partial 2 0x4040)) false
+    ∷ state (endpoint 0) (InValue (2 ^ 62) 3 1) false
+    ∷ state (endpoint 0) (InValue 5 (2 ^ 62) 1) false
+    ∷ state (endpoint 0) (InValue 5 3 0) false
+    ∷ state (endpoint 0) (InValue 5 3 4) false
+    ∷ state (endpoint 65536) (InType (partial 0 0)) false
+    ∷ []
+
+abbrev pub bothRefused : List Reader → List Pin
+bothRefused [] = []
+bothRefused (r ∷ rs) =
+    feeds r (1 ∷ []) (lent (nines 1) (nines 2)) r (fedAs.Refused (refusal 1)) (lent (nines 1) (nines 2))
+    ∷ closes r r (closedAs.Refused (refusal 1))
+    ∷ bothRefused rs
+
+-- ---- lists of calls
+
+abbrev lends : List ℕ → Call
+lends p = feed p (lent (nines 4) (nines 20))
+
+-- a type of eight bytes, byte by byte: held up to the last, and then written whole
+abbrev eightByOne : List Call
+eightByOne = lends (0xc0 ∷ []) ∷ lends (1 ∷ []) ∷ lends (2 ∷ []) ∷ lends (3 ∷ []) ∷ lends (4 ∷ []) ∷ lends (5 ∷ []) ∷ lends (6 ∷ []) ∷ lends (7 ∷ []) ∷ close ∷ close ∷ []
+
+abbrev nothing : Reply
+nothing = fed 1 0 [] Nothing []
+
+abbrev pub refusedBetween : List Call
+refusedBetween =
+    feed (0 ∷ 2 ∷ 0x61 ∷ []) (lent (nines 4) (nines 20))
+    ∷ feed (0x62 ∷ []) (lent (nines 3) (nines 20))
+    ∷ feed (0x62 ∷ []) (lent (nines 4) (nines 8))
+    ∷ feed (0x62 ∷ 0x63 ∷ []) (lent (0x61 ∷ nines 3) (nines 20))
+    ∷ close
+    ∷ feed (1 ∷ []) (lent [] [])
+    ∷ close
+    ∷ []
+
+abbrev pub onLists : List Pin
+onLists =
+    answers (intermediary 4) eightByOne
+    (nothing ∷ nothing ∷ nothing ∷ nothing ∷ nothing ∷ nothing ∷ nothing ∷ fed 1 8 (0xc0 ∷ 1 ∷ 2 ∷ 3 ∷ 4 ∷ 5 ∷ 6 ∷ 7 ∷ []) Nothing [] ∷ closed closedAs.Truncated ∷ refused (refusal 2) ∷ [])
+    -- a length that is cut
+    ∷ answers (endpoint 4) (lends (0x17 ∷ 0x40 ∷ []) ∷ lends (0 ∷ []) ∷ close ∷ []) (fed 2 0 [] Nothing [] ∷ fed 1 0 [] (Capsule (Skipped 23 0)) [] ∷ closed closedAs.Clean ∷ [])
+    -- refused calls between good ones: 4, 5, and 2 after the close though the buffers are short
+    ∷ answers (intermediary 4) refusedBetween
+    (fed 3 0 [] Nothing [] ∷ refused (refusal 4) ∷ refused (refusal 5) ∷ fed 1 0 [] (Capsule (Delivered 2)) (0x61 ∷ 0x62 ∷ []) ∷ closed closedAs.Clean ∷ refused (refusal 2) ∷ refused (refusal 2) ∷ [])
+    ∷ []
+
 abbrev pub Pinned : Type 0
-Pinned = All onTheWire
+Pinned = All onTheWire × All onStreams × All (bothRefused unmakeable) × All onLists

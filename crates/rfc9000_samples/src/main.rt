@@ -1,23 +1,9 @@
 // Reads and writes the samples of RFC 9000, appendix A.1, and the borders of the four sizes.
-use libc::STDOUT_FILENO;
+use show::hex;
+use show::number;
+use show::word;
 use wire::varint::Varint;
 use wire::varint::Written;
-
-fn word(text: &[u8]) {
-    io::write_all(STDOUT_FILENO, text);
-}
-
-fn number(n: u64) {
-    io::print_decimal(STDOUT_FILENO, n);
-}
-
-fn hex(s: &[u8]) {
-    let mut i = 0;
-    while i < s.len() {
-        io::print_hex(STDOUT_FILENO, s[i] as u64, 2);
-        i += 1;
-    }
-}
 
 fn read(s: &[u8]) {
     word(b"read ");

@@ -1,0 +1,105 @@
+-- Bytes moved into the lent buffers. Assumes nothing.
+use mathlib.Core.Path.{_≡_, refl, sym, ap, _∙_}
+use Prim.Native.Nat.{ℕ, suc, _+_, _-_, _*_, _/_, _%_, _^_, _≤_, _<_}
+use native.Mathlib.Numerals.{add-one}
+use native.Mathlib.Omega.{arith}
+use mathlib.Core.Bool.{Bool, true, false}
+use mathlib.Core.List.{List}
+use lib.ListN.{length, take, drop, set, length-append}
+use lib.Seq.{sets, length-sets, length-take-le}
+use borrow.Author.Tests.{le-leb}
+use Rattle.spans.specs.Copy.{Copying, copying, bothHave, copy}
+use Rattle.wire.specs.declared.partial.Partial.{Partial}
+use Rattle.wire.specs.Bytes.{bytesOf}
+use Rattle.wire.specs.Partial.{heldBytes}
+use Rattle.wire.proofs.Numbers.{pow-256, length-bytesOf, sets-append}
+use Rattle.capsule.specs.Book.{onlyIf}
+use Rattle.capsule.specs.declared.plan.Plan.{Plan}
+use Rattle.capsule.specs.declared.reader.Reader.{Reader}
+use Rattle.capsule.specs.declared.reader.FeedAnswer.the-variants.{Took}
+use Rattle.capsule.specs.Calls.{Lent, lent}
+use Rattle.capsule.specs.Reader.{planOf, heldOf, wrote, stored, feeding, fedBy, takeOf}
+use Rattle.capsule.specs.Moves.{Wrote}
+
+-- ---- a number's bytes, from the first on
+
+-- the first of k + 1 bytes, then the others
+first-out : (o : List ℕ) (i k raw : ℕ) → sets (set o i (raw / 256 ^ k % 256)) (suc i) (bytesOf k raw) ≡ sets o i (bytesOf (suc k) raw)
+unfolding bytesOf
+first-out o i k raw = refl
+
+-- i of n bytes are in place, and the others would make the whole
+abbrev pub Putting : ℕ → ℕ → List ℕ → List ℕ → ℕ → Type 0
+Putting n raw o₀ o i = sets o i (bytesOf (n - i) raw) ≡ sets o₀ 0 (bytesOf n raw)
+
+module _ (n raw : ℕ) (o₀ : List ℕ) where
+  pub put-none : Putting n raw o₀ o₀ 0
+  put-none = let e : n - 0 ≡ n = omega arith in rw e
+
+  module _ (o : List ℕ) (i : ℕ) (e : Putting n raw o₀ o i) where
+    pub put-next : i < n → Putting n raw o₀ (set o i (raw / 2 ^ (8 * (n - i - 1)) % 256)) (i + 1)
+    put-next h = go (n - i - 1) refl
+      where
+        go : (k : ℕ) → n - i - 1 ≡ k → Putting n raw o₀ (set o i (raw / 2 ^ (8 * (n - i - 1)) % 256)) (i + 1)
+        go k q =
+            let a : n - i ≡ suc k = omega arith in
+            let b : n - (i + 1) ≡ k = omega arith in
+            rw (q, b, add-one i, pow-256 k) (first-out o i k raw ∙ ap (λ (x : ℕ). sets o i (bytesOf x raw)) (sym a) ∙ e)
+
+    pub put-all : n ≤ i → o ≡ sets o₀ 0 (bytesOf n raw)
+    unfolding bytesOf
+    put-all h = let z : n - i ≡ 0 = omega arith in sym (ap (λ (x : ℕ). sets o i (bytesOf x raw)) z) ∙ e
+
+-- ---- a run of bytes
+
+-- a copy that fits puts the run in place
+pub copied : (src : List ℕ) (from : ℕ) (dst : List ℕ) (to n : ℕ) (done : Bool) (after : List ℕ) → copying done after ≡ copy src from dst to n
+    → from + n ≤ length src → to + n ≤ length dst → after ≡ sets dst to (take n (drop from src))
+unfolding copy bothHave
+copied src from dst to n done after e h k =
+    ap (λ (c : Copying). c .buffer) (rw (le-leb (from + n) (length src) h, le-leb (to + n) (length dst) k) at e)
+
+-- what becomes of the gathering buffer
+module _ (p g : List ℕ) (store : Bool) (at consumed place : ℕ) where
+  pub stored-some : store ≡ true → at ≤ consumed → consumed ≤ length p → place + (consumed - at) ≤ length g → (done : Bool) (after : List ℕ)
+      → copying done after ≡ copy p at g place (consumed - at) → after ≡ stored store at consumed place p g
+  unfolding stored
+  stored-some e h l k done after c = rw e (copied p at g place (consumed - at) done after c (omega arith) k)
+
+  pub stored-none : store ≡ false → g ≡ stored store at consumed place p g
+  unfolding stored
+  stored-none e = rw e
+
+-- the held bytes, and behind them a run of the piece
+module _ (p o : List ℕ) (forward : Bool) (held : Partial) (consumed : ℕ) where
+  pub wrote-some : forward ≡ true → consumed ≤ length p → held .have + consumed ≤ length o → (put : List ℕ) → put ≡ sets o 0 (bytesOf (held .have) (held .raw))
+      → (done : Bool) (after : List ℕ) → copying done after ≡ copy p 0 put (held .have) consumed
+      → Wrote (wrote forward held consumed p) o (held .have + consumed) after
+  unfolding wrote onlyIf heldBytes
+  wrote-some e l h put isPut done after c =
+      let w : List ℕ = bytesOf (held .have) (held .raw) in
+      let len : length w ≡ held .have = length-bytesOf (held .have) (held .raw) in
+      let size : length put ≡ length o = ap length isPut ∙ length-sets o 0 w in
+      let z : 0 + length w ≡ held .have = omega arith in
+      rw e (record {
+        counted = omega (arith, length-append w (take consumed p), length-take-le consumed p l);
+        placed = copied p 0 put (held .have) consumed done after c (omega arith) (omega arith)
+            ∙ ap (λ (x : List ℕ). sets x (held .have) (take consumed p)) isPut
+            ∙ ap (λ (x : ℕ). sets (sets o 0 w) x (take consumed p)) (sym z)
+            ∙ sets-append o 0 w (take consumed p);
+      })
+
+  pub wrote-none : forward ≡ false → Wrote (wrote forward held consumed p) o 0 o
+  unfolding wrote onlyIf
+  wrote-none e = rw e (record { counted = refl; placed = refl })
+
+-- ---- a feeding without its refusals
+
+-- planned and moved as said, it is the whole of it
+pub takes : (r : Reader) (p : List ℕ) (b : Lent) (held : Partial) (plan : Plan) (written : ℕ) (g o : List ℕ)
+    → held ≡ heldOf (r .phase) → plan ≡ planOf (r .opening) p (r .phase)
+    → g ≡ stored (plan .store) (plan .at) (plan .consumed) (plan .place) p (b .gathering)
+    → Wrote (wrote (plan .forward) held (plan .consumed) p) (b .output) written o
+    → feeding (record { opening = r .opening; phase = plan .next; finished = false }) (Took (plan .consumed) written (plan .ended)) (lent g o) ≡ takeOf r p b
+unfolding takeOf fedBy
+takes r p b held plan written g o isHeld isPlan s w = rw (← isHeld, ← isPlan, s, w .counted, w .placed)

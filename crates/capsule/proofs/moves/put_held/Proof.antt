@@ -1,0 +1,73 @@
+use native.Mathlib.Omega.{arith}
+use borrow.Author.Needs.{needs}
+use Prim.Native.Nat.{_-_, _≤_}
+use mathlib.Core.Path.{_≡_, refl}
+use lib.ListN.{length, length-set}
+use Rattle.capsule.proofs.Moving.{Putting, put-none, put-next, put-all}
+use Rattle.capsule.proofs.moves.put_held.Statement.{statement}
+use Rattle.capsule.proofs.moves.put_held.Tie as tie
+
+abbrev Inv-loop : tie.InvT-loop
+Inv-loop out₀ have raw n i₀ out i = (i ≤ n) × Putting n raw out₀ out i × (length out ≡ length out₀)
+
+abbrev μ-loop : tie.MeasureT-loop
+μ-loop out₀ have raw n i₀ out i = n - i
+
+loop-holds : tie.Need-loop-holds Inv-loop μ-loop
+loop-holds c = (omega arith, put-none (c .args .have) (c .args .raw) (c .args .out .now), refl)
+
+sub-shift : tie.Need-sub-shift Inv-loop μ-loop
+sub-shift c = search needs
+
+sub-shift-2 : tie.Need-sub-shift-2 Inv-loop μ-loop
+sub-shift-2 c = search needs
+
+mul-shift : tie.Need-mul-shift Inv-loop μ-loop
+mul-shift c = omega arith
+
+shr-out : tie.Need-shr-out Inv-loop μ-loop
+shr-out c = omega arith
+
+cast-out : tie.Need-cast-out Inv-loop μ-loop
+cast-out c = omega arith
+
+slice-write-out : tie.Need-slice-write-out Inv-loop μ-loop
+slice-write-out c = omega arith
+
+add-i : tie.Need-add-i Inv-loop μ-loop
+add-i c = omega arith
+
+loop-less : tie.Need-loop-less Inv-loop μ-loop
+loop-less c = omega arith
+
+loop-again : tie.Need-loop-again Inv-loop μ-loop
+loop-again c =
+    let entry = c .before .before in
+    (omega arith, put-next (entry .args .have) (entry .args .raw) (entry .args .out .now) (c .before .loop .out) (c .before .loop .i) (c .before .loop .inv .1) (omega arith), simp length-set (c .before .loop .inv .2))
+
+same-length : tie.Need-same-length Inv-loop μ-loop
+same-length c = search needs
+
+returns : tie.Need-returns Inv-loop μ-loop
+returns c =
+    let entry = c .before .before in
+    put-all (entry .args .have) (entry .args .raw) (entry .args .out .now) (c .before .loop .out) (c .before .loop .i) (c .before .loop .inv .1) (omega arith)
+
+pub put-held-spec : {M : Type 1} → statement M
+put-held-spec =
+    tie.close
+    (tie.spec
+    Inv-loop
+    μ-loop
+    loop-holds
+    sub-shift
+    sub-shift-2
+    mul-shift
+    shr-out
+    cast-out
+    slice-write-out
+    add-i
+    loop-less
+    loop-again
+    same-length
+    returns)

@@ -1,0 +1,86 @@
+use native.Mathlib.Omega.{arith}
+use Prim.Native.Nat.{_+_, _≤_}
+use mathlib.Core.Path.{_≡_, sym, ap, _∙_}
+use lib.ListN.{length, drop, length-drop}
+use Rattle.wire.specs.Partial.{takeVarint}
+use Rattle.capsule.specs.Reader.{planHead}
+use Rattle.capsule.proofs.Planning.{ends-within, rest-of, length-impossible, length-more, length-ends}
+use borrow.Author.Needs.{needs}
+use Rattle.capsule.proofs.plan.plan_length.Statement.{statement}
+use Rattle.capsule.proofs.plan.plan_length.Tie as tie
+
+-- what is taken of the rest of the piece, and where a length ends in it
+taken : (c : tie.After-take) → c .take .result ≡ takeVarint (c .before .before .before .args .part) (drop (c .before .before .before .args .at) (c .before .before .before .args .piece .now))
+taken c =
+    let entry = c .before .before .before in
+    c .take .ensures ∙ ap (takeVarint (entry .args .part)) (rest-of (entry .args .piece .now) (entry .args .at))
+
+ends : (c : tie.After-known-told2) → c .before .before .before .before .before .before .args .at + c .before .taken2 .given .0 .0 ≤ length (c .before .before .before .before .before .before .args .piece .now)
+ends c =
+    let entry = c .before .before .before .before .before .before in
+    omega (arith, ends-within _ _ _ _ (sym (taken (c .before .before .before)) ∙ c .before .taken2 .given .1), length-drop (entry .args .at) (entry .args .piece .now))
+
+sub-take : tie.Need-sub-take
+sub-take c = search needs
+
+part-take-start : tie.Need-part-take-start
+part-take-start c = search needs
+
+part-take-end : tie.Need-part-take-end
+part-take-end c = search needs
+
+take-requires : tie.Need-take-requires
+take-requires c κs = search needs
+
+enum-told : tie.Need-enum-told
+enum-told c = search needs
+
+plan-head-requires : tie.Need-plan-head-requires
+plan-head-requires c κs = search needs
+
+enum-known-taken : tie.Need-enum-known-taken
+enum-known-taken c = search needs
+
+forwards-requires : tie.Need-forwards-requires
+forwards-requires c κs = search needs
+
+plan-head-requires-2 : tie.Need-plan-head-requires-2
+plan-head-requires-2 c κs = search needs
+
+enum-known-taken-2 : tie.Need-enum-known-taken-2
+enum-known-taken-2 c = search needs
+
+add-plan-value : tie.Need-add-plan-value
+add-plan-value c = omega (arith, ends c)
+
+plan-value-requires : tie.Need-plan-value-requires
+plan-value-requires c κs = (ends c, omega arith)
+
+returns : tie.Need-returns
+returns c = c .plan-head .ensures ∙ sym (length-impossible _ _ _ _ _ (sym (taken (c .before .before .before)) ∙ c .before .enum-told .given .1))
+
+returns-2 : tie.Need-returns-2
+returns-2 c = c .plan-head2 .ensures ∙ ap (planHead _ _) (c .before .forwards .ensures) ∙ sym (length-more _ _ _ _ _ _ (sym (taken (c .before .before .before .before .before)) ∙ c .before .before .before .taken .given .1))
+
+returns-3 : tie.Need-returns-3
+returns-3 c = c .plan-value .ensures ∙ sym (length-ends _ _ _ _ _ _ _ (sym (taken (c .before .before .before .before)) ∙ c .before .before .taken2 .given .1))
+
+pub plan-length-spec : {M : Type 1} → statement M
+plan-length-spec =
+    tie.close
+    (tie.spec
+    sub-take
+    part-take-start
+    part-take-end
+    take-requires
+    enum-told
+    plan-head-requires
+    enum-known-taken
+    forwards-requires
+    plan-head-requires-2
+    enum-known-taken-2
+    add-plan-value
+    plan-value-requires
+    returns
+    returns-2
+    returns-3)

@@ -1,0 +1,55 @@
+use native.Mathlib.Omega.{arith}
+use Prim.Native.Nat.{_≤_}
+use lib.ListN.{length}
+use Rattle.capsule.proofs.Planning.{Fits, plan-fits, held-few}
+use Rattle.capsule.proofs.Moving.{takes}
+use Rattle.capsule.proofs.Verdicts.{Accepts, accepts}
+use borrow.Author.Needs.{needs}
+use Rattle.capsule.proofs.reader.Reader.take.Statement.{statement}
+use Rattle.capsule.proofs.reader.Reader.take.Tie as tie
+
+-- what is known at the entry, of the held bytes and of the plan
+accepted : (c : tie.Start) → Accepts (c .args .self) (length (c .args .piece .now)) (length (c .args .gathering .now)) (length (c .args .output .now))
+accepted c = accepts _ _ _ _ (c .pre)
+
+held : (c : tie.After-held-of) → c .held-of .result .have ≤ 7
+held c = rw (c .held-of .ensures) (held-few _ (accepted (c .before .before .before .before .before) .phase))
+
+fits : (c : tie.After-plan-of) → Fits (c .before .before .before .before .before .before .args .self .opening) (c .before .before .before .before .before .before .args .piece .now) (c .plan-of .result)
+fits c = rw (c .plan-of .ensures) (plan-fits _ _ _ (accepted (c .before .before .before .before .before .before) .phase))
+
+held-of-requires : tie.Need-held-of-requires
+held-of-requires c κs = search needs
+
+plan-of-requires : tie.Need-plan-of-requires
+plan-of-requires c κs = accepted (c .before .before .before .before .before) .phase
+
+store-bytes-requires : tie.Need-store-bytes-requires
+store-bytes-requires c κs = let f = fits (c .before) in (f .starts, f .within, λ s. omega (arith, f .stores s, accepted (c .before .before .before .before .before .before .before) .gathers))
+
+forward-bytes-requires : tie.Need-forward-bytes-requires
+forward-bytes-requires c κs =
+    let f = fits (c .before .before .before .before .before) in
+    let h = held (c .before .before .before .before .before .before) in
+    (f .within, omega arith, λ w. omega (arith, f .within, accepted (c .before .before .before .before .before .before .before .before .before .before .before) .forwards (f .forwards w)))
+
+same-length : tie.Need-same-length
+same-length c = search needs
+
+same-length-2 : tie.Need-same-length-2
+same-length-2 c = search needs
+
+returns : tie.Need-returns
+returns c = takes _ _ _ _ _ _ _ _ (c .before .before .before .before .before .before .before .before .before .held-of .ensures) (c .before .before .before .before .before .before .before .before .plan-of .ensures) (c .before .before .before .before .before .before .store-bytes .ensures) (c .before .before .forward-bytes .ensures)
+
+pub take-spec : {M : Type 1} → statement M
+take-spec =
+    tie.close
+    (tie.spec
+    held-of-requires
+    plan-of-requires
+    store-bytes-requires
+    forward-bytes-requires
+    same-length
+    same-length-2
+    returns)

@@ -1,0 +1,125 @@
+-- Demand 3's book (document 01's term): it holds the opening, the stream and a finished mark, reads the stream by the grammar, and never sees a reader.
+use Prim.Native.Nat.{ℕ, suc}
+use mathlib.Core.Bool.{Bool, true, false, cond}
+use mathlib.Core.Option.{Option, none, some}
+use mathlib.Core.List.{List, [], _∷_, _++_}
+use lib.ListN.{length, drop}
+use Rattle.refusals.specs.Numbers.{finished}
+use Rattle.capsule.specs.declared.opening.Opening.{Opening}
+use Rattle.capsule.specs.declared.opening.Report.{Report}
+use Rattle.capsule.specs.declared.opening.Report.the-variants.{Delivered, Dropped, Skipped, Passed}
+use Rattle.capsule.specs.declared.reader.Ended.{Ended}
+use Rattle.capsule.specs.declared.reader.Ended.the-variants.{Nothing, Capsule}
+use Rattle.capsule.specs.declared.reader.CloseAnswer.{CloseAnswer}
+use Rattle.capsule.specs.declared.reader.CloseAnswer.the-variants.{Clean, Truncated}
+use Rattle.capsule.specs.declared.reader.Verdict.{Verdict}
+use Rattle.capsule.specs.declared.reader.Verdict.the-variants.{Accepted, Refused}
+use Rattle.capsule.specs.Grammar as grammar
+use Rattle.capsule.specs.Grammar.{Stage, inType, inLength, inValue, Parts, parts}
+use Rattle.capsule.specs.Kinds.{reportOf, forwards}
+use Rattle.capsule.specs.Calls.{Lent, Call, feed, close, Reply, refused, fed, closed, lentVerdict}
+
+-- ---- forwarded bytes
+
+unfoldable pub onlyIf : Bool → List ℕ → List ℕ
+onlyIf true s = s
+onlyIf false s = []
+
+unfoldable pub fromCapsules : Opening → List grammar.Capsule → List ℕ
+fromCapsules op [] = []
+fromCapsules op (c ∷ cs) = onlyIf (forwards op (c .ctype)) (c .bytes) ++ fromCapsules op cs
+
+-- of the tail: all of it, once its type is complete
+unfoldable pub fromTail : Opening → List ℕ → Stage → List ℕ
+fromTail op r inType = []
+fromTail op r (inLength t head) = onlyIf (forwards op t) r
+fromTail op r (inValue t n head) = onlyIf (forwards op t) r
+
+unfoldable pub fromParts : Opening → Parts → List ℕ
+fromParts op p = fromCapsules op (p .capsules) ++ fromTail op (p .tail) (p .stage)
+
+unfoldable pub forwarded : Opening → List ℕ → List ℕ
+forwarded op s = fromParts op (parts s)
+
+-- ---- feeding
+
+unfoldable pub firstOf : List grammar.Capsule → Option grammar.Capsule
+firstOf [] = none
+firstOf (c ∷ cs) = some c
+
+-- the capsule that the byte b completes behind s, if it completes one
+unfoldable pub completes : List ℕ → ℕ → Option grammar.Capsule
+completes s b = firstOf (drop (length (parts s .capsules)) (parts (s ++ (b ∷ [])) .capsules))
+
+pub record Taken : Type 0 where
+  pub stream : List ℕ
+  pub consumed : ℕ
+  pub capsule : Option grammar.Capsule
+
+-- a piece's bytes are appended one by one, up to one that completes a capsule
+unfoldable pub append : List ℕ → List ℕ → Taken
+append s [] = record { stream = s; consumed = 0; capsule = none }
+append s (b ∷ p) =
+    let rest = append (s ++ (b ∷ [])) p in
+    elim (completes s b) [
+      | none ↦ record { stream = rest .stream; consumed = suc (rest .consumed); capsule = rest .capsule }
+      | some c ↦ record { stream = s ++ (b ∷ []); consumed = 1; capsule = some c }
+    ]
+
+unfoldable pub reported : Opening → grammar.Capsule → Report
+reported op c = reportOf op (c .ctype) (length (c .value))
+
+unfoldable pub endedBy : Opening → Option grammar.Capsule → Ended
+endedBy op none = Nothing
+endedBy op (some c) = Capsule (reported op c)
+
+unfoldable pub onlyDelivered : Report → List ℕ → List ℕ
+onlyDelivered (Delivered n) value = value
+onlyDelivered (Dropped n) value = []
+onlyDelivered (Skipped t n) value = []
+onlyDelivered (Passed t n) value = []
+
+-- a delivered payload is the capsule's value
+unfoldable pub payloadBy : Opening → Option grammar.Capsule → List ℕ
+payloadBy op none = []
+payloadBy op (some c) = onlyDelivered (reported op c) (c .value)
+
+-- ---- the book
+
+pub record Book : Type 0 where
+  pub opening : Opening
+  pub stream : List ℕ
+  pub mark : Bool
+
+unfoldable pub newBook : Opening → Book
+newBook op = record { opening = op; stream = []; mark = false }
+
+unfoldable pub bookVerdict : Book → List ℕ → Lent → Verdict
+bookVerdict k piece buffers =
+    cond (k .mark) (Refused finished) (lentVerdict (k .opening) (length piece) (length (buffers .gathering)) (length (buffers .output)))
+
+-- what feeding adds to the forwarded bytes is written
+unfoldable pub gained : Opening → List ℕ → List ℕ → List ℕ
+gained op before after = drop (length (forwarded op before)) (forwarded op after)
+
+unfoldable pub bookFeed : Book → List ℕ → Verdict → Book × Reply
+bookFeed k piece (Refused r) = (k, refused r)
+bookFeed k piece Accepted =
+    let t = append (k .stream) piece in
+    let w = gained (k .opening) (k .stream) (t .stream) in (
+      record { opening = k .opening; stream = t .stream; mark = k .mark },
+      fed (t .consumed) (length w) w (endedBy (k .opening) (t .capsule)) (payloadBy (k .opening) (t .capsule)),
+    )
+
+-- a clean close answers clean if the tail is empty
+unfoldable pub endOf : List ℕ → CloseAnswer
+endOf [] = Clean
+endOf (b ∷ r) = Truncated
+
+unfoldable pub bookClose : Book → Bool → Book × Reply
+bookClose k true = (k, refused finished)
+bookClose k false = (record { opening = k .opening; stream = k .stream; mark = true }, closed (endOf (parts (k .stream) .tail)))
+
+unfoldable pub bookCall : Book → Call → Book × Reply
+bookCall k (feed piece buffers) = bookFeed k piece (bookVerdict k piece buffers)
+bookCall k close = bookClose k (k .mark)

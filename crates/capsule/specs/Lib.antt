@@ -1,0 +1,7 @@
+pub mod Grammar
+pub mod Kinds
+pub mod Calls
+pub mod Book
+pub mod State
+pub mod Reader
+pub mod Moves

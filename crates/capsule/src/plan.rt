@@ -1,0 +1,118 @@
+// What a feeding is to do, found out before any byte is moved.
+ghost use mathlib.Core.Path.{_≡_};
+ghost use Prim.Native.Nat.{_≤_};
+ghost use mathlib.Core.Bool.{true};
+ghost use lib.ListN.{length};
+ghost use Rattle.capsule.specs.Reader.{isMakeablePhase, planValue, planHead, planLength, planType, planOf, heldOf};
+use crate::opening::Opening;
+use crate::reader::Ended;
+use crate::reader::Phase;
+use wire::partial::Partial;
+use wire::partial::Taken;
+
+pub struct Plan {
+    pub next: Phase,
+    pub consumed: usize,
+    pub ended: Ended,
+    // the held bytes of the type and the consumed ones go to the output
+    pub forward: bool,
+    // the consumed bytes from `at` on go to the gathering buffer, from `place` on
+    pub store: bool,
+    pub at: usize,
+    pub place: u64,
+}
+
+// The value stands in the piece from `at` on, and `left` bytes of it are to come.
+fn plan_value(op: Opening, piece: &[u8], at: usize, ctype: u64, size: u64, left: u64) -> Plan
+    requires { ⌜ (at ≤ length (now piece)) × (left ≤ size) ⌝ }
+    ensures { λ r. ⌜ r ≡ planValue op (now (piece .entry)) at ctype size left ⌝ }
+{
+    let forward = op.forwards(ctype);
+    let store = op.gathers(ctype, size);
+    let room = (piece.len() - at) as u64;
+    if left <= room {
+        let report = op.report(ctype, size);
+        return Plan {
+            next: Phase::InType(Partial::EMPTY),
+            consumed: at + (left as usize),
+            ended: Ended::Capsule(report),
+            forward: forward,
+            store: store,
+            at: at,
+            place: size - left,
+        };
+    }
+    Plan {
+        next: Phase::InValue(ctype, size, left - room),
+        consumed: piece.len(),
+        ended: Ended::Nothing,
+        forward: forward,
+        store: store,
+        at: at,
+        place: size - left,
+    }
+}
+
+// The piece ends before the value.
+fn plan_head(next: Phase, consumed: usize, forward: bool) -> Plan
+    ensures { λ r. ⌜ r ≡ planHead next consumed forward ⌝ }
+{
+    Plan {
+        next: next,
+        consumed: consumed,
+        ended: Ended::Nothing,
+        forward: forward,
+        store: false,
+        at: 0,
+        place: 0,
+    }
+}
+
+// The length stands in the piece from `at` on, behind the part of it that came before.
+fn plan_length(op: Opening, piece: &[u8], at: usize, ctype: u64, part: Partial) -> Plan
+    requires { ⌜ at ≤ length (now piece) ⌝ }
+    ensures { λ r. ⌜ r ≡ planLength op (now (piece .entry)) at ctype part ⌝ }
+{
+    let taken = part.take(&piece[at..]);
+    match taken {
+        Taken::Impossible => plan_head(Phase::InLength(ctype, part), 0, false),
+        Taken::More(more) => {
+            let forward = op.forwards(ctype);
+            plan_head(Phase::InLength(ctype, more), piece.len(), forward)
+        }
+        Taken::Ends { used, value } => plan_value(op, piece, at + used, ctype, value, value),
+    }
+}
+
+fn plan_type(op: Opening, piece: &[u8], part: Partial) -> Plan
+    ensures { λ r. ⌜ r ≡ planType op (now (piece .entry)) part ⌝ }
+{
+    let taken = part.take(piece);
+    match taken {
+        Taken::Impossible => plan_head(Phase::InType(part), 0, false),
+        Taken::More(more) => plan_head(Phase::InType(more), piece.len(), false),
+        Taken::Ends { used, value } => plan_length(op, piece, used, value, Partial::EMPTY),
+    }
+}
+
+pub(crate) fn plan_of(op: Opening, piece: &[u8], phase: Phase) -> Plan
+    requires { ⌜ isMakeablePhase phase ≡ true ⌝ }
+    ensures { λ r. ⌜ r ≡ planOf op (now (piece .entry)) phase ⌝ }
+{
+    match phase {
+        Phase::InType(part) => plan_type(op, piece, part),
+        Phase::InLength(ctype, part) => plan_length(op, piece, 0, ctype, part),
+        Phase::InValue(ctype, size, left) => plan_value(op, piece, 0, ctype, size, left),
+    }
+}
+
+// The bytes of a type that is not complete.
+pub(crate) fn held_of(phase: Phase) -> Partial
+    ensures { λ r. ⌜ r ≡ heldOf phase ⌝ }
+{
+    match phase {
+        Phase::InType(part) => part,
+        Phase::InLength(_, _) => Partial::EMPTY,
+        Phase::InValue(_, _, _) => Partial::EMPTY,
+    }
+}

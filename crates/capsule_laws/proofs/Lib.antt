@@ -1,0 +1,9 @@
+pub mod Grammar
+pub mod Appending
+pub mod Plans
+pub mod Forwarding
+pub mod Gathering
+pub mod Steps
+pub mod Lists
+pub mod Orders
+pub mod Makeable

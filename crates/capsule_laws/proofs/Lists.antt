@@ -1,0 +1,329 @@
+-- Demand 3: every list of calls. Assumes nothing.
+use mathlib.Core.Path.{_≡_, refl, sym, ap, _∙_, subst}
+use Prim.Native.Nat.{ℕ, suc, _+_, _-_, _≤_}
+use native.Mathlib.Omega.{arith}
+use mathlib.Core.Bool.{Bool, true, false}
+use mathlib.Core.Option.{Option, none, some}
+use mathlib.Core.List.{List, [], _∷_}
+use lib.ListN.{length, take, drop, length-append}
+use lib.Seq.{drop-append-seam, sets, length-take-le}
+use borrow.Author.Tests.{le-leb, lt-ltb, ne-eqb}
+use Rattle.refusals.specs.declared.Refusal.{Refusal}
+use Rattle.refusals.specs.Numbers.{finished}
+use Rattle.wire.specs.declared.partial.Partial.{Partial}
+use Rattle.wire.specs.Bytes.{Bytes, bytesOf}
+use Rattle.wire.specs.Varint.{largest}
+use Rattle.wire.specs.Partial.{partialOf, heldBytes}
+use Rattle.wire.proofs.Numbers.{bytes-drop, length-bytesOf}
+use Rattle.wire.proofs.Reading.{read-bounds, no-whole-nil}
+use Rattle.wire.proofs.Parts.{both, partial-occurs}
+use Rattle.capsule.specs.declared.opening.Opening.{Opening}
+use Rattle.capsule.specs.declared.opening.Role.{Role}
+use Rattle.capsule.specs.declared.plan.Plan.{Plan}
+use Rattle.capsule.specs.declared.reader.Phase.{Phase}
+use Rattle.capsule.specs.declared.reader.Reader.{Reader}
+use Rattle.capsule.specs.declared.reader.Opened.the-variants as opened
+use Rattle.capsule.specs.declared.reader.CloseAnswer.{CloseAnswer}
+use Rattle.capsule.specs.declared.reader.CloseAnswer.the-variants as closedAs
+use Rattle.capsule.specs.declared.reader.Closed.{Closed}
+use Rattle.capsule.specs.declared.reader.Verdict.{Verdict}
+use Rattle.capsule.specs.declared.reader.Verdict.the-variants.{Accepted, Refused}
+use Rattle.capsule.specs.Grammar.{Stage, part, Parts, parts}
+use Rattle.capsule.specs.Calls.{Lent, Call, feed, close, Reply, closed, run}
+use Rattle.capsule.specs.Book.{onlyIf, forwarded, append, Book, newBook, bookVerdict, gained, bookFeed, endOf, bookClose, bookCall}
+use Rattle.capsule.specs.State.{phaseAt, phaseOf, readerOf, ofBook}
+use Rattle.capsule.specs.Reader.{opening, fresh, isOpening, openOf, isMakeablePhase, isMakeable, verdictOf, planOf, heldOf, wrote, fedBy, takeOf, feedBy, feedOf, endAt, closing, closeOf, feedReply, closeReply, readerCall}
+use Rattle.capsule_laws.specs.Claims.{StandsAt, Stands, AllBytes, Agrees, Follows, leftBy, HandedOn, LentWell, Demand3, Demand3Standing}
+use Rattle.capsule_laws.proofs.Grammar.{Sees, seesType, seesLength, seesValue, head-fits, parts-nil, tail-sees, tail-bytes}
+use Rattle.capsule_laws.proofs.Gathering.{take-sets}
+use Rattle.capsule.proofs.Planning.{zero-one, plan-fits, held-few}
+use Rattle.capsule.proofs.Verdicts.{Accepts, accepts}
+use Rattle.capsule_laws.proofs.Steps.{Same, same, between}
+
+-- ---- what a stream makes is makeable
+
+made-phase : (r : List ℕ) (x : Stage) → Sees r (part x) → Bytes r → isMakeablePhase (phaseAt r x) ≡ true
+unfolding isMakeablePhase phaseAt
+made-phase r x (seesType e) h = partial-occurs r h e
+made-phase r x (seesLength {t = t} {j = j} e d) h =
+    both _ _ (le-leb t largest (read-bounds r t j h e .0)) (partial-occurs (drop j r) (bytes-drop j r h) d)
+made-phase r x (seesValue {t = t} {j = j} {n = n} {k = k} e d l) h =
+    let f = head-fits r e d in
+    let left = j + k + n - length r in
+    both _ _ (le-leb t largest (read-bounds r t j h e .0))
+    (both _ _ (le-leb n largest (read-bounds (drop j r) n k (bytes-drop j r h) d .0))
+    (both _ _ (lt-ltb 0 left (omega arith)) (le-leb left n (omega arith))))
+
+pub made-stream : (s : List ℕ) → Bytes s → isMakeablePhase (phaseOf (parts s)) ≡ true
+unfolding phaseOf
+made-stream s h = made-phase (parts s .tail) (parts s .stage) (tail-sees s) (tail-bytes s h)
+
+-- ---- the book of an accepted opening, whose stream is bytes
+
+pub record Open (k : Book) : Type 0 where
+  pub accepted : isOpening (k .opening) ≡ true
+  pub bytes : Bytes (k .stream)
+
+pub made-book : (k : Book) → Open k → isMakeable (ofBook k) ≡ true
+unfolding isMakeable ofBook readerOf
+made-book k o = both _ _ (o .accepted) (made-stream (k .stream) (o .bytes))
+
+pub verdict-same : (k : Book) (p : List ℕ) (b : Lent) → Open k
+    → verdictOf (ofBook k) (length p) (length (b .gathering)) (length (b .output)) ≡ bookVerdict k p b
+unfolding verdictOf bookVerdict
+verdict-same k p b o = rw (made-book k o) (unfold ofBook readerOf in refl)
+
+pub unmarked : (k : Book) (p : List ℕ) (b : Lent) → bookVerdict k p b ≡ Accepted → k .mark ≡ false
+unfolding bookVerdict
+unmarked k p b e = go (k .mark) refl
+  where
+    go : (m : Bool) → k .mark ≡ m → k .mark ≡ false
+    go true f = zero-one (cc (rw f at e))
+    go false f = f
+
+-- ---- what is written stands at the output's front
+
+wrote-fits : (f : Bool) (held : Partial) (c : ℕ) (p o : List ℕ) → c ≤ length p → (f ≡ true → held .have + c ≤ length o) → length (wrote f held c p) ≤ length o
+unfolding wrote onlyIf heldBytes
+wrote-fits true held c p o h g =
+    omega (arith, g refl, length-append (bytesOf (held .have) (held .raw)) (take c p), length-bytesOf (held .have) (held .raw), length-take-le c p h)
+wrote-fits false held c p o h g = omega arith
+
+front-written : (o w : List ℕ) → length w ≤ length o → take (length w) (sets o 0 w) ≡ w
+front-written o w h = take-sets o w 0 (length w) (omega arith) h
+
+-- ---- one accepted feeding
+
+module _ (k : Book) (p : List ℕ) (b : Lent) (o : Open k) (h : Bytes p) (v : bookVerdict k p b ≡ Accepted) (s : Stands k (b .gathering)) where
+  abbrev op : Opening
+  op = k .opening
+
+  abbrev phase : Phase
+  phase = phaseOf (parts (k .stream))
+
+  abbrev plan : Plan
+  plan = planOf op p phase
+
+  abbrev w : List ℕ
+  w = wrote (plan .forward) (heldOf phase) (plan .consumed) p
+
+  may : Accepts (ofBook k) (length p) (length (b .gathering)) (length (b .output))
+  may = accepts (ofBook k) (length p) (length (b .gathering)) (length (b .output)) (verdict-same k p b o ∙ v)
+
+  enough : op .limit ≤ length (b .gathering)
+  unfolding ofBook readerOf
+  enough = may .gathers
+
+  there : Same op (k .stream) p (b .gathering) plan (append (k .stream) p)
+  there = same op (k .stream) p (b .gathering) (o .bytes) h enough s
+
+  fits : length w ≤ length (b .output)
+  unfolding ofBook readerOf
+  fits =
+      let m = made-stream (k .stream) (o .bytes) in
+      let f = plan-fits op p phase m in
+      wrote-fits (plan .forward) (heldOf phase) (plan .consumed) p (b .output) (f .within)
+      (λ i. omega (arith, may .forwards (f .forwards i), held-few phase m, f .within))
+
+  gains : w ≡ gained op (k .stream) (append (k .stream) p .stream)
+  unfolding gained
+  gains = sym (ap (drop (length (forwarded op (k .stream)))) (there .writes) ∙ drop-append-seam (forwarded op (k .stream)) w)
+
+  pub taken : _≡_ {A = Reader × Reply} (takeOf (ofBook k) p b .reader, feedReply (takeOf (ofBook k) p b .answer) (takeOf (ofBook k) p b .buffers)) (ofBook (bookFeed k p Accepted .0), bookFeed k p Accepted .1)
+  unfolding takeOf fedBy ofBook readerOf bookFeed feedReply
+  taken =
+      let c = there .consumed in
+      rw (front-written (b .output) w fits, there .payload, there .ended, gains, c, there .phase, unmarked k p b v)
+
+  pub taken-stands : Stands (bookFeed k p Accepted .0) (takeOf (ofBook k) p b .buffers .gathering)
+  unfolding takeOf fedBy ofBook readerOf bookFeed
+  taken-stands = there .stands
+
+  pub taken-open : Open (bookFeed k p Accepted .0)
+  unfolding bookFeed
+  taken-open = record { accepted = o .accepted; bytes = there .bytes }
+
+-- ---- one call
+
+pub record One (k : Book) (c : Call) : Type 0 where
+  pub same-answer : readerCall (ofBook k) c ≡ (ofBook (bookCall k c .0), bookCall k c .1)
+  pub stays-open : Open (bookCall k c .0)
+
+module _ (k : Book) (p : List ℕ) (b : Lent) where
+  -- the reader's answer to a feeding, by its verdict
+  pub fed-by : (v : Verdict) → verdictOf (ofBook k) (length p) (length (b .gathering)) (length (b .output)) ≡ v
+      → _≡_ {A = Reader × Reply} (readerCall (ofBook k) (feed p b)) (feedBy (ofBook k) p b v .reader, feedReply (feedBy (ofBook k) p b v .answer) (feedBy (ofBook k) p b v .buffers))
+  unfolding readerCall feedOf
+  fed-by v e = rw e
+
+  left-by : (v : Verdict) → verdictOf (ofBook k) (length p) (length (b .gathering)) (length (b .output)) ≡ v → feedOf (ofBook k) p b ≡ feedBy (ofBook k) p b v
+  unfolding feedOf
+  left-by v e = rw e
+
+  pub book-by : (v : Verdict) → bookVerdict k p b ≡ v → bookCall k (feed p b) ≡ bookFeed k p v
+  unfolding bookCall
+  book-by v e = rw e
+
+  refused-by : (r : Refusal) → _≡_ {A = Reader × Reply} (feedBy (ofBook k) p b (Refused r) .reader, feedReply (feedBy (ofBook k) p b (Refused r) .answer) (feedBy (ofBook k) p b (Refused r) .buffers)) (ofBook (bookFeed k p (Refused r) .0), bookFeed k p (Refused r) .1)
+  unfolding feedBy feedReply bookFeed
+  refused-by r = refl
+
+  taken-by : Open k → Bytes p → bookVerdict k p b ≡ Accepted → Stands k (b .gathering)
+      → _≡_ {A = Reader × Reply} (feedBy (ofBook k) p b Accepted .reader, feedReply (feedBy (ofBook k) p b Accepted .answer) (feedBy (ofBook k) p b Accepted .buffers)) (ofBook (bookFeed k p Accepted .0), bookFeed k p Accepted .1)
+  unfolding feedBy
+  taken-by o h v s = taken k p b o h v s
+
+  one-feed : Open k → Bytes p → (bookVerdict k p b ≡ Accepted → Stands k (b .gathering)) → One k (feed p b)
+  one-feed o h s = go (bookVerdict k p b) refl
+    where
+      go : (v : Verdict) → bookVerdict k p b ≡ v → One k (feed p b)
+      go (Refused r) v =
+          record {
+            same-answer = fed-by (Refused r) (verdict-same k p b o ∙ v) ∙ refused-by r ∙ ap (λ (x : Book × Reply). (ofBook (x .0), x .1)) (sym (book-by (Refused r) v));
+            stays-open = subst (λ (x : Book × Reply). Open (x .0)) (sym (book-by (Refused r) v)) (unfold bookFeed in o);
+          }
+      go Accepted v =
+          record {
+            same-answer = fed-by Accepted (verdict-same k p b o ∙ v) ∙ taken-by o h v (s v) ∙ ap (λ (x : Book × Reply). (ofBook (x .0), x .1)) (sym (book-by Accepted v));
+            stays-open = subst (λ (x : Book × Reply). Open (x .0)) (sym (book-by Accepted v)) (taken-open k p b o h v (s v));
+          }
+
+-- a clean close finds the tail empty exactly between capsules
+end-same : (r : List ℕ) (x : Stage) → Sees r (part x) → endAt (phaseAt r x) ≡ endOf r
+unfolding endAt phaseAt endOf partialOf
+end-same [] x (seesType e) = refl
+end-same (b ∷ r) x (seesType e) = rw (ne-eqb (suc (length r)) 0 (λ z. omega arith))
+end-same [] x (seesLength e d) = no-whole-nil e
+end-same (b ∷ r) x (seesLength e d) = refl
+end-same [] x (seesValue e d h) = no-whole-nil e
+end-same (b ∷ r) x (seesValue e d h) = refl
+
+close-reply : (r : List ℕ) → closeReply (endOf r) ≡ closed (endOf r)
+unfolding closeReply endOf
+close-reply [] = refl
+close-reply (b ∷ r) = refl
+
+close-marked : (r : Reader) → isMakeable r ≡ true → r .finished ≡ true → closeOf r ≡ closing r (closedAs.Refused finished)
+unfolding closeOf
+close-marked r m f = rw (m, f)
+
+close-live : (r : Reader) → isMakeable r ≡ true → r .finished ≡ false → closeOf r ≡ closing (record { opening = r .opening; phase = r .phase; finished = true }) (endAt (r .phase))
+unfolding closeOf
+close-live r m f = rw (m, f)
+
+module _ (k : Book) (o : Open k) where
+  close-as : (c : Closed) → closeOf (ofBook k) ≡ c → _≡_ {A = Reader × Reply} (readerCall (ofBook k) close) (c .reader, closeReply (c .answer))
+  unfolding readerCall
+  close-as c e = rw e
+
+  ended-same : endAt (phaseOf (parts (k .stream))) ≡ endOf (parts (k .stream) .tail)
+  unfolding phaseOf
+  ended-same = end-same (parts (k .stream) .tail) (parts (k .stream) .stage) (tail-sees (k .stream))
+
+  pub closed-same : (m : Bool) → k .mark ≡ m → readerCall (ofBook k) close ≡ (ofBook (bookClose k m .0), bookClose k m .1)
+  unfolding bookClose ofBook readerOf closeReply
+  closed-same true e = close-as _ (close-marked (ofBook k) (made-book k o) e)
+  closed-same false e =
+      close-as _ (close-live (ofBook k) (made-book k o) e)
+      ∙ ap (λ (a : CloseAnswer). (readerOf (k .opening) (k .stream) true, closeReply a)) ended-same
+      ∙ ap (λ (a : Reply). (readerOf (k .opening) (k .stream) true, a)) (close-reply (parts (k .stream) .tail))
+
+  pub one-close : One k close
+  unfolding bookCall
+  one-close = record { same-answer = closed-same (k .mark) refl; stays-open = go (k .mark) }
+    where
+      go : (m : Bool) → Open (bookClose k m .0)
+      go true = unfold bookClose in o
+      go false = unfold bookClose in record { accepted = o .accepted; bytes = o .bytes }
+
+-- ---- all calls
+
+pub all-calls : (k : Book) (cs : List Call) → Open k → AllBytes cs → LentWell k cs → run readerCall (ofBook k) cs ≡ (ofBook (run bookCall k cs .0), run bookCall k cs .1)
+unfolding run
+all-calls k [] o h l = refl
+all-calls k (feed p b ∷ cs) o h l =
+    let y = one-feed k p b o (h .0) (l .0) in
+    rw (y .same-answer, all-calls (bookCall k (feed p b) .0) cs (y .stays-open) (h .1) (l .1))
+all-calls k (close ∷ cs) o h l =
+    let y = one-close k o in
+    rw (y .same-answer, all-calls (bookCall k close .0) cs (y .stays-open) (h .1) l)
+
+-- ---- buffers that are handed on
+
+-- what the last accepted feeding left, against the stream
+abbrev Ready : Book → Option (List ℕ) → Type 0
+Ready k none = (g : List ℕ) → Stands k g
+Ready k (some g) = Stands k g
+
+ready-lent : (k : Book) (last : Option (List ℕ)) (g : List ℕ) → Ready k last → Follows last g → Stands k g
+ready-lent k none g r f = r g
+ready-lent k (some h) g r f = subst (λ (l : List ℕ). Stands k l) (sym f) r
+
+ready-close : (k : Book) (last : Option (List ℕ)) (m : Bool) → Ready k last → Ready (bookClose k m .0) last
+unfolding bookClose
+ready-close k none true r = r
+ready-close k (some g) true r = r
+ready-close k none false r = r
+ready-close k (some g) false r = r
+
+ready-feed : (k : Book) (last : Option (List ℕ)) (p : List ℕ) (b : Lent) → Open k → Bytes p → Ready k last → (bookVerdict k p b ≡ Accepted → Follows last (b .gathering))
+    → Ready (bookCall k (feed p b) .0) (leftBy (bookVerdict k p b) last (feedOf (ofBook k) p b .buffers .gathering))
+ready-feed k last p b o h r f = go (bookVerdict k p b) refl
+  where
+    go : (v : Verdict) → bookVerdict k p b ≡ v → Ready (bookCall k (feed p b) .0) (leftBy (bookVerdict k p b) last (feedOf (ofBook k) p b .buffers .gathering))
+    go (Refused why) v = rw (v, book-by k p b (Refused why) v) (unfold bookFeed leftBy in r)
+    go Accepted v =
+        rw (v, book-by k p b Accepted v, left-by k p b Accepted (verdict-same k p b o ∙ v))
+        (unfold leftBy feedBy in taken-stands k p b o h v (ready-lent k last (b .gathering) r (f v)))
+
+lent-well : (k : Book) (last : Option (List ℕ)) (cs : List Call) → Open k → AllBytes cs → Ready k last → HandedOn last k (ofBook k) cs → LentWell k cs
+lent-well k last [] o h r l = tt
+lent-well k last (feed p b ∷ cs) o h r l =
+    let s : bookVerdict k p b ≡ Accepted → Stands k (b .gathering) = λ v. ready-lent k last (b .gathering) r (l .0 v) in
+    let y = one-feed k p b o (h .0) s in
+    let k′ = bookCall k (feed p b) .0 in
+    let last′ = leftBy (bookVerdict k p b) last (feedOf (ofBook k) p b .buffers .gathering) in
+    let l′ : HandedOn last′ k′ (ofBook k′) cs = subst (λ (x : Reader × Reply). HandedOn last′ k′ (x .0) cs) (y .same-answer) (l .1) in
+    (s, lent-well k′ last′ cs (y .stays-open) (h .1) (ready-feed k last p b o (h .0) r (l .0)) l′)
+lent-well k last (close ∷ cs) o h r l =
+    let y = one-close k o in
+    let k′ = bookCall k close .0 in
+    let l′ : HandedOn last k′ (ofBook k′) cs = subst (λ (x : Reader × Reply). HandedOn last k′ (x .0) cs) (y .same-answer) l in
+    lent-well k′ last cs (y .stays-open) (h .1) (unfold bookCall in ready-close k last (k .mark) r) l′
+
+-- ---- from the opening
+
+pub open-fresh : (role : Role) (limit : ℕ) (draft : Bool) (r : Reader) → openOf role limit draft ≡ opened.Ready r → (isOpening (opening role limit draft) ≡ true) × (r ≡ fresh (opening role limit draft))
+unfolding openOf
+open-fresh role limit draft r e = go (isOpening (opening role limit draft)) refl
+  where
+    go : (t : Bool) → isOpening (opening role limit draft) ≡ t → (isOpening (opening role limit draft) ≡ true) × (r ≡ fresh (opening role limit draft))
+    go true d = (d, cc (rw d at e))
+    go false d = zero-one (cc (rw d at e))
+
+pub fresh-book : (op : Opening) → fresh op ≡ ofBook (newBook op)
+unfolding ofBook newBook readerOf phaseOf
+fresh-book op = λ i. record { opening = op; phase = (between ∙ ap (λ (x : Parts). phaseAt (x .tail) (x .stage)) (sym parts-nil)) i; finished = false }
+
+pub fresh-open : (op : Opening) → isOpening op ≡ true → Open (newBook op)
+unfolding newBook
+fresh-open op e = record { accepted = e; bytes = tt }
+
+fresh-ready : (op : Opening) → Ready (newBook op) none
+unfolding newBook
+fresh-ready op g = subst (λ (x : Parts). StandsAt op (x .tail) (x .stage) g) (sym parts-nil) tt
+
+from-opening : (op : Opening) (cs : List Call) → isOpening op ≡ true → AllBytes cs → LentWell (newBook op) cs → Agrees op (fresh op) cs
+from-opening op cs e h l = rw (fresh-book op) (all-calls (newBook op) cs (fresh-open op e) h l)
+
+pub demand-3-standing : Demand3Standing
+demand-3-standing role limit draft r e cs h l =
+    let f = open-fresh role limit draft r e in
+    rw (f .1) (from-opening (opening role limit draft) cs (f .0) h l)
+
+pub demand-3 : Demand3
+demand-3 role limit draft r e cs h l =
+    let f = open-fresh role limit draft r e in
+    let op = opening role limit draft in
+    let l′ : HandedOn none (newBook op) (ofBook (newBook op)) cs = subst (λ (x : Reader). HandedOn none (newBook op) x cs) (f .1 ∙ fresh-book op) l in
+    demand-3-standing role limit draft r e cs h (lent-well (newBook op) none cs (fresh-open op (f .0)) h (fresh-ready op) l′)

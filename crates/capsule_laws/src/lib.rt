@@ -1,0 +1,1 @@
+// What holds of the capsule grammar, the book and the reader: see specs/Claims.antt.

@@ -1,0 +1,61 @@
+use borrow.Author.Needs.{needs}
+use native.Mathlib.Omega.{arith}
+use Prim.Native.Nat.{ℕ, _-_, _≤_}
+use mathlib.Core.Path.{_≡_, sym, ap, _∙_}
+use lib.ListN.{length, length-set}
+use lib.ListN.{take, drop}
+use mathlib.Core.List.{List}
+use native.Mathlib.Nat.{le-antisymm}
+use lib.Seq.{paste, paste-zero, getD-drop}
+use Rattle.spans.proofs.Laws.{turn0, within, front, room}
+use Rattle.spans.proofs.fill.Statement.{statement}
+use Rattle.spans.proofs.fill.Tie as tie
+
+abbrev Inv-loop : tie.InvT-loop
+Inv-loop block₀ src from n i₀ block i = (i ≤ n) × (block ≡ paste block₀ 0 (drop from src) i) × (length block ≡ 16384)
+
+abbrev μ-loop : tie.MeasureT-loop
+μ-loop block₀ src from n i₀ block i = n - i
+
+loop-holds : tie.Need-loop-holds Inv-loop μ-loop
+loop-holds c = (omega arith, paste-zero (c .args .block .now) 0 (drop (c .args .from) (c .args .src .now)), search needs)
+
+add-block : tie.Need-add-block Inv-loop μ-loop
+add-block c = search needs
+
+shared-slice-read-block : tie.Need-shared-slice-read-block Inv-loop μ-loop
+shared-slice-read-block c = search needs
+
+element-write-block : tie.Need-element-write-block Inv-loop μ-loop
+element-write-block c = search needs
+
+add-i : tie.Need-add-i Inv-loop μ-loop
+add-i c = search needs
+
+loop-less : tie.Need-loop-less Inv-loop μ-loop
+loop-less c = search needs
+
+loop-again : tie.Need-loop-again Inv-loop μ-loop
+loop-again c =
+    let entry = c .before .before .before in
+    (omega arith, turn0 (c .before .before .loop .block) (entry .args .block .now) (drop (entry .args .from) (entry .args .src .now)) (c .before .before .loop .i) _ (c .before .before .loop .inv .1) (sym (getD-drop (entry .args .from) (entry .args .src .now) (c .before .before .loop .i) 0)) (omega arith) (within (entry .args .src .now) (entry .args .from) (entry .args .n) (c .before .before .loop .i) (omega arith) (omega arith)), simp length-set (c .before .before .loop .inv .2))
+
+returns : tie.Need-returns Inv-loop μ-loop
+returns c =
+    let entry = c .before .before in
+    (ap (λ (l : List ℕ). take (entry .args .n) l) (c .before .loop .inv .1 ∙ ap (λ (m : ℕ). paste (entry .args .block .now) 0 (drop (entry .args .from) (entry .args .src .now)) m) (le-antisymm (c .before .loop .inv .0) (c .loop-test .left))) ∙ front (entry .args .block .now) (drop (entry .args .from) (entry .args .src .now)) (entry .args .n) (room (entry .args .src .now) (entry .args .from) (entry .args .n) (omega arith)), c .before .loop .inv .2)
+
+pub fill-spec : {M : Type 1} → statement M
+fill-spec =
+    tie.close
+    (tie.spec
+    Inv-loop
+    μ-loop
+    loop-holds
+    add-block
+    shared-slice-read-block
+    element-write-block
+    add-i
+    loop-less
+    loop-again
+    returns)
