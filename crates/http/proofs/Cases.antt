@@ -1,0 +1,69 @@
+-- Cases of document 01, computed.
+use mathlib.Core.Path.{_≡_, refl}
+use mathlib.Core.Bool.{true, false}
+use mathlib.Core.List.{[], _∷_, map}
+use Prim.Native.Nat.{_-_, _^_}
+use Rattle.refusals.specs.Numbers.{refusal}
+use Rattle.http.specs.declared.errors.ErrorOf.the-variants.{Is}
+use Rattle.http.specs.declared.messages.Message.the-variants.{Request, Response}
+use Rattle.http.specs.declared.settings.Setting.the-variants.{Accepted, Bad}
+use Rattle.http.specs.declared.translation.Translation.the-variants.{Refused, Becomes}
+use Rattle.http.specs.Errors.{number, badSetting}
+use Rattle.http.specs.Field.{inUse, trimStart, trimEnd, sameBytes}
+use Rattle.http.specs.Messages.{fieldCounts, requestMalformed, responseMalformed}
+use Rattle.http.specs.Settings.{receivedSetting, settingError}
+use Rattle.http.specs.Translation.{translated, answer, nth, becomes, connection}
+
+pub record Cases : Type 0 where
+  pub good-settings : receivedSetting 0 0 ∷ receivedSetting 1 1 ∷ receivedSetting 1 0 ∷ [] ≡ Accepted 0 ∷ Accepted 1 ∷ Accepted 1 ∷ []
+  pub bad-settings : receivedSetting 0 1 ∷ receivedSetting 2 0 ∷ receivedSetting 1 2 ∷ [] ≡ Bad ∷ Bad ∷ Bad ∷ []
+  pub bad-setting-error : settingError Bad ≡ Is (record { 0 = 6 })
+  pub bad-setting-translated : translated (number badSetting) 3 ≡ Becomes (connection 0x0109)
+  pub malformed : map (λ s. responseMalformed s false false false) (204 ∷ 205 ∷ 206 ∷ []) ≡ true ∷ true ∷ true ∷ []
+  pub well-formed : map (λ s. responseMalformed s false false false) (0 ∷ 203 ∷ 207 ∷ []) ≡ false ∷ false ∷ false ∷ []
+  pub malformed-by-field :
+      responseMalformed 200 true false false ∷ responseMalformed 200 false true false ∷ responseMalformed 200 false false true ∷ []
+      ≡ true ∷ true ∷ true ∷ []
+  pub field-counts : fieldCounts Request ∷ map (λ s. fieldCounts (Response s)) (101 ∷ 200 ∷ 299 ∷ []) ≡ true ∷ true ∷ true ∷ true ∷ []
+  pub field-ignored : map (λ s. fieldCounts (Response s)) (0 ∷ 100 ∷ 102 ∷ 199 ∷ 300 ∷ []) ≡ false ∷ false ∷ false ∷ false ∷ false ∷ []
+  -- `?1` alone, and with spaces before it, after it and at both ends
+  pub in-use :
+      map inUse
+      ((0x3f ∷ 0x31 ∷ [])
+      ∷ (0x20 ∷ 0x3f ∷ 0x31 ∷ [])
+      ∷ (0x3f ∷ 0x31 ∷ 0x20 ∷ [])
+      ∷ (0x20 ∷ 0x20 ∷ 0x3f ∷ 0x31 ∷ 0x20 ∷ 0x20 ∷ [])
+      ∷ [])
+      ≡ true ∷ true ∷ true ∷ true ∷ []
+  -- `?1` and a tab, `? 1`, spaces, nothing, `?0`, `?1;a`
+  pub not-in-use :
+      map inUse
+      ((0x3f ∷ 0x31 ∷ 0x09 ∷ [])
+      ∷ (0x3f ∷ 0x20 ∷ 0x31 ∷ [])
+      ∷ (0x20 ∷ 0x20 ∷ [])
+      ∷ []
+      ∷ (0x3f ∷ 0x30 ∷ [])
+      ∷ (0x3f ∷ 0x31 ∷ 0x3b ∷ 0x61 ∷ [])
+      ∷ [])
+      ≡ false ∷ false ∷ false ∷ false ∷ false ∷ false ∷ []
+  pub unknown-errors : map (λ e. translated e 3) (0 ∷ 7 ∷ (2 ^ 64 - 1) ∷ []) ≡ Refused (refusal 17) ∷ Refused (refusal 17) ∷ Refused (refusal 17) ∷ []
+  pub unknown-versions : map (translated 1) (0 ∷ 4 ∷ []) ≡ Refused (refusal 17) ∷ Refused (refusal 17) ∷ []
+
+pub cases : Cases
+unfolding receivedSetting settingError number requestMalformed responseMalformed fieldCounts inUse trimStart trimEnd sameBytes translated answer nth becomes
+cases =
+    record {
+      good-settings = refl;
+      bad-settings = refl;
+      bad-setting-error = refl;
+      bad-setting-translated = refl;
+      malformed = refl;
+      well-formed = refl;
+      malformed-by-field = refl;
+      field-counts = refl;
+      field-ignored = refl;
+      in-use = refl;
+      not-in-use = refl;
+      unknown-errors = refl;
+      unknown-versions = refl;
+    }

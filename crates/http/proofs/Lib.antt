@@ -1,0 +1,5 @@
+pub mod Cases
+pub mod Lookup
+pub mod SameBytes
+pub mod Table
+pub mod Trim

@@ -1,0 +1,50 @@
+use mathlib.Core.Path.{_≡_, ap, sym, _∙_}
+use mathlib.Core.List.{[], _∷_}
+use borrow.Author.Needs.{needs}
+use borrow.Author.Tests.{eq-eqb, ne-eqb}
+use denote.Ref.{now}
+use Rattle.http.specs.Field.{trimEnd, sameBytes, inUse}
+use Rattle.http.proofs.SameBytes.{two-bytes, other-length}
+use Rattle.http.proofs.field.in_use.Statement.{statement}
+use Rattle.http.proofs.field.in_use.Tie as tie
+
+trimmed : (c : tie.After-trim-end) → inUse (now (c .before .before .before .args .value)) ≡ sameBytes (now (c .trim-end .result)) (0x3f ∷ 0x31 ∷ [])
+unfolding inUse
+trimmed c = rw (c .trim-end .ensures ∙ ap trimEnd (c .before .trim-start .ensures))
+
+trim-start-requires : tie.Need-trim-start-requires
+trim-start-requires c κs = search needs
+
+trim-end-requires : tie.Need-trim-end-requires
+trim-end-requires c κs = search needs
+
+returns : tie.Need-returns
+returns c = sym (trimmed (c .before) ∙ other-length _ _ (c .if1 .taken))
+
+shared-slice-read-if2 : tie.Need-shared-slice-read-if2
+shared-slice-read-if2 c = search needs
+
+shared-slice-read-result : tie.Need-shared-slice-read-result
+shared-slice-read-result c = search needs
+
+returns-2 : tie.Need-returns-2
+returns-2 c =
+    let e = c .before .before .before in
+    rw (trimmed (e .before) ∙ two-bytes _ _ _ (e .if1 .left)) (simp (eq-eqb _ _ (c .before .if2 .taken)))
+
+returns-3 : tie.Need-returns-3
+returns-3 c =
+    let e = c .before .before in
+    rw (trimmed (e .before) ∙ two-bytes _ _ _ (e .if1 .left)) (simp (ne-eqb _ _ (c .if2 .left)))
+
+pub in-use-spec : {M : Type 1} → statement M
+in-use-spec =
+    tie.close
+    (tie.spec
+    trim-start-requires
+    trim-end-requires
+    returns
+    shared-slice-read-if2
+    shared-slice-read-result
+    returns-2
+    returns-3)

@@ -1,0 +1,5 @@
+pub mod Errors
+pub mod Field
+pub mod Messages
+pub mod Settings
+pub mod Translation

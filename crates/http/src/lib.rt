@@ -1,0 +1,6 @@
+// What HTTP versions, messages and settings say about datagrams and capsules (RFC 9297).
+pub mod errors;
+pub mod field;
+pub mod messages;
+pub mod settings;
+pub mod translation;
