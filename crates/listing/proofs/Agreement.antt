@@ -1,0 +1,28 @@
+-- The listing agrees with the reader's book. Assumes nothing.
+use mathlib.Core.Path.{_≡_, refl, ap, _∙_}
+use Prim.Native.Nat.{ℕ}
+use mathlib.Core.Bool.{false}
+use mathlib.Core.List.{List, [], _∷_}
+use lib.ListN.{length, length-map}
+use Rattle.capsule.specs.Grammar.{parts}
+use Rattle.capsule.specs.Calls.{run, close, closed}
+use Rattle.capsule.specs.Book.{Book, newBook, bookCall, bookClose, endOf, reported}
+use Rattle.capsule_laws.proofs.Orders.{whole-list}
+use Rattle.listing.specs.Listing.{endingOf}
+use Rattle.listing.specs.Claims.{asClosed, AgreesWithReader}
+use Rattle.listing.proofs.Rounds.{accepted}
+
+same-end : (tail : List ℕ) → endOf tail ≡ asClosed (endingOf tail)
+unfolding endOf endingOf asClosed
+same-end [] = refl
+same-end (b ∷ r) = refl
+
+closes-so : (k : Book) → k .mark ≡ false → bookCall k close .1 ≡ closed (asClosed (endingOf (parts (k .stream) .tail)))
+unfolding bookCall bookClose
+closes-so k e = rw (e, same-end)
+
+pub agrees-with-reader : AgreesWithReader
+agrees-with-reader op cs e h =
+    let k = run bookCall (newBook op) cs .0 in
+    let count = ap length (whole-list op cs .every-report) ∙ length-map (parts (k .stream) .capsules) (reported op) in
+    record { ending = endingOf (parts (k .stream) .tail); lists = rw count (accepted (k .stream) h); closes = closes-so k e }
