@@ -103,8 +103,8 @@ pub fn read_varint(s: &[u8]) -> Varint
     }
 }
 
-// How many bytes the shortest varint of a number has.
-fn least_size(n: u64) -> usize
+// How many bytes the shortest varint of a number has, for the numbers that have one: up to 2^62-1.
+pub fn least_size(n: u64) -> usize
     ensures { λ r. ⌜ r ≡ leastSize n ⌝ }
 {
     if n < 64 {
