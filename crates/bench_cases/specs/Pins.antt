@@ -35,6 +35,13 @@ use Rattle.capsule.specs.declared.reader.CloseAnswer.the-variants as closedAs
 use Rattle.capsule.specs.Calls.{Lent, lent, Call, feed, close, Reply, refused, fed, closed, run}
 use Rattle.capsule.specs.Reader.{opening, fresh, openOf, Feeding, feeding, feedOf, closing, closeOf, readerCall}
 use Rattle.bench_cases.specs.Starred.{Outcome, outcomeOf, outcome, S}
+use Rattle.streams.specs.declared.record.StreamRecord.{StreamRecord}
+use Rattle.streams.specs.Records.{blank, opened}
+use Rattle.streams.specs.Tables.{Table}
+use Rattle.datagram.specs.declared.judge.Judged.{Judged}
+use Rattle.datagram.specs.declared.judge.Judged.the-variants as judged
+use Rattle.datagram.specs.Judging.{judgedOf, payloadOf}
+use Rattle.datagram.specs.Sending.{writeCapsule, writeFrame}
 
 pub data Pin : Type 0 where
   -- bytes, and what is read at their front
@@ -53,6 +60,12 @@ pub data Pin : Type 0 where
   closes : Reader → Reader → CloseAnswer → Pin
   -- calls on a reader that was just opened, and their answers
   answers : Opening → List Call → List Reply → Pin
+  -- a table, the stated stream limit, the datagram limit and a frame's payload: how it is judged, and the payload that is delivered
+  judges : (table : Table) (streams limit : ℕ) (frame : List ℕ) → Judged → (payload : List ℕ) → Pin
+  -- a table, a stream ID, a payload, an output and a place; the answer, and the output afterwards
+  capsules : (table : Table) (id : ℕ) (payload out : List ℕ) (place : ℕ) → Written → (after : List ℕ) → Pin
+  -- besides, our setting, the peer's and the path size
+  frames : (table : Table) (id ours peers path : ℕ) (payload out : List ℕ) (place : ℕ) → Written → (after : List ℕ) → Pin
 
 abbrev pub Holds : Pin → Type 0
 Holds (reads s r) = readVarint s ≡ r
@@ -64,6 +77,9 @@ Holds (opens role limit draft r) = openOf role limit draft ≡ r
 Holds (feeds r p b r′ a b′) = feedOf r p b ≡ feeding r′ a b′
 Holds (closes r r′ a) = closeOf r ≡ closing r′ a
 Holds (answers op cs rs) = run readerCall (fresh op) cs .1 ≡ rs
+Holds (judges t n limit bytes j payload) = (judgedOf t n limit bytes ≡ j) × (payloadOf t n limit bytes ≡ payload)
+Holds (capsules t id payload out place r after) = writeCapsule t (record { 0 = id }) payload out place ≡ writing r after
+Holds (frames t id ours peers path payload out place r after) = writeFrame t (record { 0 = id }) ours peers path payload out place ≡ writing r after
 
 abbrev pub All : List Pin → Type 0
 All [] = Unit {0}
@@ -221,5 +237,65 @@ onLists =
     (fed 3 0 [] Nothing [] ∷ refused (refusal 4) ∷ refused (refusal 5) ∷ fed 1 0 [] (Capsule (Delivered 2)) (0x61 ∷ 0x62 ∷ []) ∷ closed closedAs.Clean ∷ refused (refusal 2) ∷ refused (refusal 2) ∷ [])
     ∷ []
 
+-- ---- tables, payloads, writers
+
+abbrev mark : ℕ → Bool → Bool → Bool → StreamRecord
+mark q receive send semantics = record { used = true; quarter = record { 0 = q }; receive = receive; send = send; semantics = semantics }
+
+abbrev one : StreamRecord → Table
+one r = r ∷ []
+
+-- a used record with both sides closed
+abbrev bad : Table
+bad = one (mark 1 false false true)
+
+-- stream 0 behind a blank, and streams 4 and 20
+abbrev three′ : Table
+three′ = blank ∷ opened (record { 0 = 0 }) true ∷ opened (record { 0 = 1 }) true ∷ opened (record { 0 = 5 }) true ∷ []
+
+abbrev pub onFrames : List Pin
+onFrames =
+    -- refusals stand before rules: 15, 3, 6
+    judges bad (2 ^ 60 + 1) 65536 [] (judged.Refused (refusal 15)) []
+    ∷ judges three′ (2 ^ 60 + 1) 65536 [] (judged.Refused (refusal 3)) []
+    ∷ judges three′ (2 ^ 60 + 1) 65535 [] (judged.Refused (refusal 6)) []
+    -- the stream limit counts quarters, at or above is beyond; it wins though the stream is in the table, and too large wins over it
+    ∷ judges three′ 0 9 (0 ∷ []) judged.BeyondLimit []
+    ∷ judges three′ 6 9 (5 ∷ 7 ∷ []) (judged.Delivered 3) (7 ∷ [])
+    ∷ judges three′ 5 9 (5 ∷ 7 ∷ []) judged.BeyondLimit []
+    ∷ judges three′ 5 9 (4 ∷ 7 ∷ []) judged.NoStream []
+    ∷ judges three′ 0 9 (0xd0 ∷ 0 ∷ 0 ∷ 0 ∷ 0 ∷ 0 ∷ 0 ∷ 0 ∷ []) judged.QuarterTooLarge []
+    -- quarter 0 is stream 0's, behind a blank
+    ∷ judges three′ 9 9 (0 ∷ 7 ∷ []) (judged.Delivered 1) (7 ∷ [])
+    -- closed, abort, too long: in this order
+    ∷ judges (one (mark 1 false true false)) 9 0 (1 ∷ 7 ∷ []) judged.ReceiveClosed []
+    ∷ judges (one (mark 1 true true false)) 9 0 (1 ∷ 7 ∷ []) judged.NoSemantics []
+    ∷ judges (one (mark 1 true true true)) 9 0 (1 ∷ 7 ∷ []) judged.TooLong []
+    -- the rest is what follows the varint as it is encoded
+    ∷ judges (one (mark 1 true true true)) 9 3 (0x40 ∷ 1 ∷ 7 ∷ 8 ∷ 9 ∷ []) (judged.Delivered 0) (7 ∷ 8 ∷ 9 ∷ [])
+    ∷ judges (one (mark 1 true true true)) 9 2 (0x40 ∷ 1 ∷ 7 ∷ 8 ∷ 9 ∷ []) judged.TooLong []
+    -- the capsule writer: 15, 7, 10, 12, 13, 5
+    ∷ capsules bad 5 (7 ∷ []) [] 0 (Refused (refusal 15)) []
+    ∷ capsules three′ 5 (7 ∷ []) [] 0 (Refused (refusal 7)) []
+    ∷ capsules three′ 8 (7 ∷ []) [] 0 (Refused (refusal 10)) []
+    ∷ capsules (one (mark 1 true false false)) 4 (7 ∷ []) [] 0 (Refused (refusal 12)) []
+    ∷ capsules (one (mark 1 true true false)) 4 (7 ∷ []) [] 0 (Refused (refusal 13)) []
+    ∷ capsules three′ 4 (7 ∷ []) (nines 3) 1 (Refused (refusal 5)) (nines 3)
+    ∷ capsules three′ 4 (7 ∷ []) (nines 5) 1 (Wrote 3) (9 ∷ 0 ∷ 1 ∷ 7 ∷ 9 ∷ [])
+    -- the frame writer: settings are any numbers; the path size counts quarter and payload, and equal passes
+    ∷ frames three′ 8 2 1 0 (7 ∷ []) [] 0 (Refused (refusal 10)) []
+    ∷ frames (one (mark 1 true false false)) 4 2 1 0 (7 ∷ []) [] 0 (Refused (refusal 11)) []
+    ∷ frames three′ 4 1 2 0 (7 ∷ []) [] 0 (Refused (refusal 11)) []
+    ∷ frames (one (mark 1 true false false)) 4 1 1 0 (7 ∷ []) [] 0 (Refused (refusal 12)) []
+    ∷ frames (one (mark 1 true true false)) 4 1 1 0 (7 ∷ []) [] 0 (Refused (refusal 13)) []
+    ∷ frames three′ 4 1 1 1 (7 ∷ []) [] 0 (Refused (refusal 14)) []
+    ∷ frames three′ 4 1 1 0 [] [] 0 (Refused (refusal 14)) []
+    ∷ frames three′ 4 1 1 2 (7 ∷ []) (nines 2) 1 (Refused (refusal 5)) (nines 2)
+    ∷ frames three′ 4 1 1 2 (7 ∷ []) (nines 4) 1 (Wrote 2) (9 ∷ 1 ∷ 7 ∷ 9 ∷ [])
+    -- quarter, not stream ID: stream 252 is 3f, stream 256 is 40 40
+    ∷ frames (one (opened (record { 0 = 63 }) true)) 252 1 1 9 [] (nines 2) 0 (Wrote 1) (0x3f ∷ 9 ∷ [])
+    ∷ frames (one (opened (record { 0 = 64 }) true)) 256 1 1 9 [] (nines 2) 0 (Wrote 2) (0x40 ∷ 0x40 ∷ [])
+    ∷ []
+
 abbrev pub Pinned : Type 0
-Pinned = All onTheWire × All onStreams × All (bothRefused unmakeable) × All onLists
+Pinned = All onTheWire × All onStreams × All (bothRefused unmakeable) × All onLists × All onFrames

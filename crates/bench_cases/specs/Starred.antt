@@ -1,9 +1,9 @@
 -- The starred bench cases of document 01, in a single table. One statement carries them: `AllStarred`.
-use Prim.Native.Nat.{ℕ}
+use Prim.Native.Nat.{ℕ, _^_}
 use mathlib.Core.Path.{_≡_}
 use mathlib.Core.Bool.{Bool, true, false}
 use mathlib.Core.List.{List, [], _∷_, _++_, map}
-use lib.ListN.{take}
+use lib.ListN.{length, take}
 use Rattle.capsule.specs.declared.opening.Role.{Role}
 use Rattle.capsule.specs.declared.opening.Role.the-variants.{Endpoint, Intermediary}
 use Rattle.capsule.specs.declared.opening.Report.{Report}
@@ -14,6 +14,13 @@ use Rattle.capsule.specs.Grammar.{parts}
 use Rattle.capsule.specs.Book.{forwarded, reported, endOf}
 use Rattle.capsule.specs.Reader.{opening}
 use Rattle.capsule_laws.specs.Claims.{delivered}
+use Rattle.wire.specs.declared.units.Quarter.{Quarter}
+use Rattle.streams.specs.Records.{blank, opened}
+use Rattle.streams.specs.Tables.{Table}
+use Rattle.datagram.specs.declared.judge.Judged.{Judged}
+use Rattle.datagram.specs.declared.judge.Judged.the-variants as judged
+use Rattle.datagram.specs.Judging.{judgedOf, payloadOf}
+use Rattle.datagram.specs.Sending.{capsuleBytes}
 
 -- what a stream comes to: its reports and delivered payloads in order, the bytes written, and the answer to a clean close
 pub record Outcome : Type 0 where
@@ -35,9 +42,15 @@ outcome reports payloads writes ending = record { reports = reports; payloads = 
 
 pub data Case : Type 0 where
   stream : (role : Role) (limit : ℕ) (draft : Bool) (bytes : List ℕ) → Outcome → Case
+  -- a frame's payload against a table, the stated stream limit and the datagram limit: how it is judged, and the payload that is delivered
+  frame : (table : Table) (streams limit : ℕ) (bytes : List ℕ) → Judged → (payload : List ℕ) → Case
+  -- what stands before every payload of that length in a capsule that we write
+  header : (length : ℕ) (bytes : List ℕ) → Case
 
 abbrev pub Holds : Case → Type 0
 Holds (stream role limit draft bytes o) = outcomeOf role limit draft bytes ≡ o
+Holds (frame t streams limit bytes j payload) = (judgedOf t streams limit bytes ≡ j) × (payloadOf t streams limit bytes ≡ payload)
+Holds (header n bytes) = (payload : List ℕ) → length payload ≡ n → capsuleBytes payload ≡ bytes ++ payload
 
 abbrev pub All : List Case → Type 0
 All [] = Unit {0}
@@ -60,7 +73,11 @@ far = 0x17 ∷ 0xff ∷ 0xff ∷ 0xff ∷ 0xff ∷ 0xff ∷ 0xff ∷ 0xff ∷ 0x
 abbrev draftOne : List ℕ
 draftOne = 0x80 ∷ 0xff ∷ 0x37 ∷ 0xa5 ∷ 0x01 ∷ 0x7a ∷ []
 
--- a case that leaves the role open stands for both
+-- the record of stream 4, and of no other
+abbrev four : Table
+four = opened (record { 0 = 1 }) true ∷ []
+
+-- a case that leaves the role open stands for both; "empty table" is one with no records, and one of blanks
 abbrev pub starred : List Case
 starred =
     stream Endpoint 1200 false S (outcome (Delivered 3 ∷ Skipped 23 0 ∷ Skipped 64 2 ∷ Delivered 0 ∷ []) (abc ∷ [] ∷ []) [] Clean)
@@ -77,6 +94,16 @@ starred =
     ∷ stream Intermediary 1200 false [] (outcome [] [] [] Clean)
     ∷ stream Endpoint 1200 true draftOne (outcome (Delivered 1 ∷ []) ((0x7a ∷ []) ∷ []) [] Clean)
     ∷ stream Endpoint 1200 false draftOne (outcome (Skipped 16725925 1 ∷ []) [] [] Clean)
+    ∷ frame four (2 ^ 60) 1200 [] judged.ShortFrame []
+    ∷ frame four (2 ^ 60) 1200 (0x40 ∷ []) judged.ShortFrame []
+    ∷ frame four (2 ^ 60) 1200 (0x01 ∷ []) (judged.Delivered 0) []
+    ∷ frame four (2 ^ 60) 1200 (0xd0 ∷ 0 ∷ 0 ∷ 0 ∷ 0 ∷ 0 ∷ 0 ∷ 0 ∷ []) judged.QuarterTooLarge []
+    ∷ frame [] (2 ^ 60) 1200 (0xcf ∷ 0xff ∷ 0xff ∷ 0xff ∷ 0xff ∷ 0xff ∷ 0xff ∷ 0xff ∷ []) judged.NoStream []
+    ∷ frame (blank ∷ blank ∷ []) (2 ^ 60) 1200 (0xcf ∷ 0xff ∷ 0xff ∷ 0xff ∷ 0xff ∷ 0xff ∷ 0xff ∷ 0xff ∷ []) judged.NoStream []
+    ∷ header 63 (0x00 ∷ 0x3f ∷ [])
+    ∷ header 64 (0x00 ∷ 0x40 ∷ 0x40 ∷ [])
+    ∷ header 16383 (0x00 ∷ 0x7f ∷ 0xff ∷ [])
+    ∷ header 16384 (0x00 ∷ 0x80 ∷ 0x00 ∷ 0x40 ∷ 0x00 ∷ [])
     ∷ []
 
 abbrev pub AllStarred : Type 0

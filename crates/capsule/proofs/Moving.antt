@@ -7,8 +7,8 @@ use mathlib.Core.Bool.{Bool, true, false}
 use mathlib.Core.List.{List}
 use lib.ListN.{length, take, drop, set, length-append}
 use lib.Seq.{sets, length-sets, length-take-le}
-use borrow.Author.Tests.{le-leb}
-use Rattle.spans.specs.Copy.{Copying, copying, bothHave, copy}
+use Rattle.spans.specs.Copy.{copying, copy}
+use Rattle.spans.proofs.Laws.{copied}
 use Rattle.wire.specs.declared.partial.Partial.{Partial}
 use Rattle.wire.specs.Bytes.{bytesOf}
 use Rattle.wire.specs.Partial.{heldBytes}
@@ -51,13 +51,6 @@ module _ (n raw : ℕ) (o₀ : List ℕ) where
     put-all h = let z : n - i ≡ 0 = omega arith in sym (ap (λ (x : ℕ). sets o i (bytesOf x raw)) z) ∙ e
 
 -- ---- a run of bytes
-
--- a copy that fits puts the run in place
-pub copied : (src : List ℕ) (from : ℕ) (dst : List ℕ) (to n : ℕ) (done : Bool) (after : List ℕ) → copying done after ≡ copy src from dst to n
-    → from + n ≤ length src → to + n ≤ length dst → after ≡ sets dst to (take n (drop from src))
-unfolding copy bothHave
-copied src from dst to n done after e h k =
-    ap (λ (c : Copying). c .buffer) (rw (le-leb (from + n) (length src) h, le-leb (to + n) (length dst) k) at e)
 
 -- what becomes of the gathering buffer
 module _ (p g : List ℕ) (store : Bool) (at consumed place : ℕ) where

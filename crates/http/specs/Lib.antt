@@ -3,3 +3,4 @@ pub mod Field
 pub mod Messages
 pub mod Settings
 pub mod Translation
+pub mod Ties

@@ -3,4 +3,5 @@ pub mod errors;
 pub mod field;
 pub mod messages;
 pub mod settings;
+pub mod ties;
 pub mod translation;

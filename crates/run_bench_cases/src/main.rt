@@ -7,19 +7,9 @@ use capsule::reader::Fed;
 use capsule::reader::FeedAnswer;
 use capsule::reader::Opened;
 use capsule::reader::Reader;
-use show::hex;
+use show::first;
 use show::number;
 use show::word;
-
-// The first n bytes, or all.
-fn front(s: &[u8], n: usize) {
-    if n <= s.len() {
-        hex(&s[..n]);
-    } else {
-        hex(s);
-    }
-    word(b"\n");
-}
 
 fn report(r: Report, gathering: &[u8]) {
     match r {
@@ -27,7 +17,8 @@ fn report(r: Report, gathering: &[u8]) {
             word(b"delivered ");
             number(n);
             word(b": ");
-            front(gathering, n as usize);
+            first(gathering, n as usize);
+            word(b"\n");
         }
         Report::Dropped(n) => {
             word(b"dropped ");
@@ -70,7 +61,8 @@ fn feed(reader: Reader, piece: &[u8]) -> Fed {
         } => {
             if written > 0 {
                 word(b"writes: ");
-                front(&output, written);
+                first(&output, written);
+                word(b"\n");
             }
             match ended {
                 Ended::Nothing => {}

@@ -17,3 +17,12 @@ pub fn hex(s: &[u8]) {
         i += 1;
     }
 }
+
+// The first n bytes, or all.
+pub fn first(s: &[u8], n: usize) {
+    if n <= s.len() {
+        hex(&s[..n]);
+    } else {
+        hex(s);
+    }
+}

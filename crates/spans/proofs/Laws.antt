@@ -7,9 +7,9 @@ use native.Mathlib.Numerals.{add-one}
 use native.Mathlib.Omega.{arith}
 use lib.ListN.{length, getD, set, take, drop, length-drop}
 use lib.Seq.{paste, paste-suc, take-paste, drop-paste, take-add, drop-drop, length-take-le, sets, sets-eq}
-use mathlib.Core.Bool.{true, false}
+use mathlib.Core.Bool.{Bool, true, false}
 use borrow.Author.Tests.{le-leb, lt-leb}
-use Rattle.spans.specs.Copy.{copying, bothHave, copy}
+use Rattle.spans.specs.Copy.{Copying, copying, bothHave, copy}
 
 -- a block of k elements copied behind i that were copied
 pub more : (d s : List ℕ) (to i k : ℕ) → to + i ≤ length d → i ≤ length s → paste (paste d to s i) (to + i) (drop i s) k ≡ paste d to s (i + k)
@@ -64,3 +64,10 @@ module _ (src : List ℕ) (from : ℕ) (dst : List ℕ) (to n : ℕ) where
   pub target-short : from + n ≤ length src → length dst < to + n → copying false dst ≡ copy src from dst to n
   unfolding copy bothHave
   target-short h k = rw (le-leb (from + n) (length src) h, lt-leb (to + n) (length dst) k)
+
+-- a copy that fits puts the run in place
+pub copied : (src : List ℕ) (from : ℕ) (dst : List ℕ) (to n : ℕ) (done : Bool) (after : List ℕ) → copying done after ≡ copy src from dst to n
+    → from + n ≤ length src → to + n ≤ length dst → after ≡ sets dst to (take n (drop from src))
+unfolding copy bothHave
+copied src from dst to n done after e h k =
+    ap (λ (c : Copying). c .buffer) (rw (le-leb (from + n) (length src) h, le-leb (to + n) (length dst) k) at e)

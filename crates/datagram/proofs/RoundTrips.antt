@@ -1,0 +1,100 @@
+-- What is written is read back. Assumes nothing.
+use mathlib.Core.Path.{_≡_, sym, ap, _∙_, subst}
+use Prim.Native.Nat.{ℕ, _+_, _-_, _^_, _≤_}
+use native.Mathlib.Omega.{arith}
+use native.Mathlib.Numerals.{one-add}
+use mathlib.Core.List.{List, [], _∷_, _++_}
+use lib.ListN.{length, drop, length-append}
+use lib.Seq.{drop-at}
+use borrow.Author.Tests.{le-leb, lt-ltb}
+use Rattle.wire.specs.declared.varint.Varint.the-variants.{Whole}
+use Rattle.wire.specs.Varint.{largest, readVarint, leastSize, encode}
+use Rattle.wire.specs.Units.{largestQuarter}
+use Rattle.wire.proofs.Encoding.{read-back, length-encode, encode-one, size-at, width-0, shortest}
+use Rattle.streams.specs.Tables.{Table}
+use Rattle.capsule.specs.Grammar.{inType, whole}
+use Rattle.capsule_laws.proofs.Grammar.{Sees, seesWhole, parts-one}
+use Rattle.datagram.specs.declared.judge.Judged.the-variants.{Delivered}
+use Rattle.datagram.specs.Judging.{judgedRecord, judgedFound, judgedQuarter, judgedRead, judgedOf, behind, isDelivered, ifDelivered, payloadOf}
+use Rattle.datagram.specs.Sending.{capsuleBytes, frameBytes}
+use Rattle.datagram.specs.Claims.{CapsuleReadBack, Receives, FrameReadBack, HeadersShortest}
+
+-- ---- capsules
+
+type-read : (rest : List ℕ) → readVarint (0 ∷ rest) ≡ Whole 0 1
+type-read rest =
+    let a : readVarint (encode 0 ++ rest) ≡ Whole 0 (leastSize 0) = read-back 0 (unfold largest in omega arith) rest .0 in
+    let b : encode 0 ≡ 0 ∷ [] = sym (encode-one 0 (omega arith)) in
+    let c : leastSize 0 ≡ 1 = sym (size-at 0 0 (width-0 0 (omega arith))) in
+    subst (λ (l : List ℕ). readVarint (l ++ rest) ≡ Whole 0 1) b (a ∙ ap (Whole 0) c)
+
+module _ (payload : List ℕ) (h : length payload ≤ 65535) where
+  abbrev n : ℕ
+  n = length payload
+
+  abbrev k : ℕ
+  k = leastSize n
+
+  length-read : readVarint (encode n ++ payload) ≡ Whole n k
+  length-read = read-back n (unfold largest in omega arith) payload .0
+
+  capsule-length : length (capsuleBytes payload) ≡ 1 + k + n
+  unfolding capsuleBytes
+  capsule-length = omega (arith, length-append (encode n) payload, length-encode n)
+
+  capsule-seen : Sees (capsuleBytes payload) (whole 0 n (1 + k))
+  unfolding capsuleBytes
+  capsule-seen = seesWhole (type-read (encode n ++ payload)) length-read (omega (arith, capsule-length))
+
+  payload-behind : drop (1 + k) (capsuleBytes payload) ≡ payload
+  unfolding capsuleBytes
+  payload-behind = ap (λ (j : ℕ). drop j (0 ∷ (encode n ++ payload))) (one-add k) ∙ drop-at (encode n) payload k (length-encode n)
+
+pub capsule-read-back : CapsuleReadBack
+capsule-read-back payload h =
+    parts-one (capsuleBytes payload) 0 (length payload) (1 + leastSize (length payload)) (capsule-seen payload h) (sym (capsule-length payload h))
+    ∙ ap (λ (v : List ℕ). record { capsules = record { ctype = 0; value = v; bytes = capsuleBytes payload } ∷ []; tail = []; stage = inType }) (payload-behind payload h)
+
+-- ---- frames
+
+module _ (t : Table) (streams limit q place : ℕ) (payload : List ℕ) (r : Receives t streams limit q place) (h : length payload ≤ limit) where
+  abbrev frame : List ℕ
+  frame = frameBytes q payload
+
+  abbrev size : ℕ
+  size = leastSize q
+
+  quarter-read : readVarint frame ≡ Whole q size
+  unfolding frameBytes
+  quarter-read = read-back q (unfold largest in omega (arith, r .below, r .stated)) payload .0
+
+  rest-length : length frame - size ≡ length payload
+  unfolding frameBytes
+  rest-length = omega (arith, length-append (encode q) payload, length-encode q)
+
+  rest-is : drop size frame ≡ payload
+  unfolding frameBytes
+  rest-is = drop-at (encode q) payload size (length-encode q)
+
+  delivered : judgedOf t streams limit frame ≡ Delivered place
+  unfolding judgedOf judgedRead judgedQuarter judgedFound judgedRecord
+  delivered =
+      let a : q ≤ largestQuarter = unfold largestQuarter in omega (arith, r .below, r .stated) in
+      rw (r .good, le-leb limit 65535 (r .limited), le-leb streams (2 ^ 60) (r .stated), quarter-read, rest-length, le-leb q largestQuarter a, lt-ltb q streams (r .below), r .found, r .opened, r .knows, le-leb (length payload) limit h)
+
+  same-payload : payloadOf t streams limit frame ≡ payload
+  unfolding payloadOf ifDelivered isDelivered behind
+  same-payload = rw (delivered, quarter-read) rest-is
+
+pub frame-read-back : FrameReadBack
+frame-read-back t streams limit q place payload r h = (delivered t streams limit q place payload r h, same-payload t streams limit q place payload r h)
+
+-- ---- shortest
+
+pub headers-shortest : HeadersShortest
+unfolding capsuleBytes frameBytes
+headers-shortest n size s payload e =
+    let m = shortest s n size e in (
+      λ isN. omega (arith, m, length-append (encode (length payload)) payload, length-encode (length payload), ap leastSize isN),
+      omega (arith, m, length-append (encode n) payload, length-encode n),
+    )

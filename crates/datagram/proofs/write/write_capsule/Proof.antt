@@ -1,0 +1,46 @@
+use mathlib.Core.Path.{sym, ap, _∙_}
+use Rattle.wire.specs.Writing.{refuses}
+use Rattle.datagram.specs.declared.write.Sending.{Sending}
+use Rattle.datagram.specs.Sending.{capsuleWritten, writeCapsuleRows}
+use borrow.Author.Needs.{needs}
+use Rattle.datagram.proofs.write.write_capsule.Statement.{statement}
+use Rattle.datagram.proofs.write.write_capsule.Tie as tie
+
+send-requires : tie.Need-send-requires
+send-requires c κs = search needs
+
+enum-known-sending : tie.Need-enum-known-sending
+enum-known-sending c = search needs
+
+enum-told : tie.Need-enum-told
+enum-told c = search needs
+
+put-capsule-requires : tie.Need-put-capsule-requires
+put-capsule-requires c κs = search needs
+
+returns : tie.Need-returns
+unfolding writeCapsuleRows capsuleWritten refuses
+returns c =
+    let entry = c .before .before .before .before .before .before .before .before in
+    ap (λ (s : Sending). capsuleWritten s (entry .args .payload .now) (entry .args .out .now) (entry .args .place)) (sym (c .before .sending .given .1) ∙ c .before .before .before .send .ensures)
+
+same-length : tie.Need-same-length
+same-length c = search needs
+
+returns-2 : tie.Need-returns-2
+unfolding writeCapsuleRows capsuleWritten refuses
+returns-2 c =
+    let entry = c .before .before .before .before .before .before .before .before .before .before .before in
+    c .before .before .put-capsule .ensures ∙ ap (λ (s : Sending). capsuleWritten s (entry .args .payload .now) (entry .args .out .now) (entry .args .place)) (sym (c .before .before .before .before .enum-told .given .1) ∙ c .before .before .before .before .before .before .send .ensures)
+
+pub write-capsule-spec : {M : Type 1} → statement M
+write-capsule-spec =
+    tie.close
+    (tie.spec
+    send-requires
+    enum-known-sending
+    enum-told
+    put-capsule-requires
+    returns
+    same-length
+    returns-2)

@@ -1,0 +1,90 @@
+-- A received QUIC DATAGRAM payload (RFC 9297, section 2.1; document 01, "Stream table and QUIC DATAGRAM payloads").
+use Prim.Native.Nat.{ℕ, _-_, _^_}
+use mathlib.Core.Bool.{Bool, true, false, cond}
+use mathlib.Core.Option.{Option, none, some}
+use mathlib.Core.List.{List, []}
+use lib.ListN.{length, drop, getD}
+use lib.Dec.{leb, ltb, eqb}
+use Rattle.refusals.specs.Numbers.{limitTooLarge, numberTooLarge, badTable}
+use Rattle.wire.specs.declared.varint.Varint.{Varint}
+use Rattle.wire.specs.declared.varint.Varint.the-variants.{Incomplete, Whole}
+use Rattle.wire.specs.Varint.{readVarint}
+use Rattle.wire.specs.Units.{largestQuarter}
+use Rattle.streams.specs.declared.record.StreamRecord.{StreamRecord}
+use Rattle.streams.specs.declared.table.Found.{Found}
+use Rattle.streams.specs.declared.table.Found.the-variants.{Nothing, At}
+use Rattle.streams.specs.Records.{blank}
+use Rattle.streams.specs.Tables.{Table, isBad, find}
+use Rattle.streams.specs.Rows.{tableOf}
+use Rattle.datagram.specs.declared.judge.Judged.{Judged}
+use Rattle.datagram.specs.declared.judge.Judged.the-variants.{Refused, ShortFrame, QuarterTooLarge, BeyondLimit, NoStream, ReceiveClosed, NoSemantics, TooLong, Delivered}
+
+-- rules 5 to 8, of the stream's record at a place
+unfoldable pub judgedRecord : StreamRecord → ℕ → ℕ → ℕ → Judged
+judgedRecord r place limit rest =
+    cond (r .receive) (cond (r .semantics) (cond (leb rest limit) (Delivered place) TooLong) NoSemantics) ReceiveClosed
+
+-- rule 4
+unfoldable pub judgedFound : Table → Found → ℕ → ℕ → Judged
+judgedFound t Nothing limit rest = NoStream
+judgedFound t (At i) limit rest = judgedRecord (getD t i blank) i limit rest
+
+-- rules 2 and 3: a quarter is at most 2^60-1, and below the stated stream limit
+unfoldable pub judgedQuarter : Table → ℕ → ℕ → ℕ → ℕ → Judged
+judgedQuarter t streams limit q rest =
+    cond (leb q largestQuarter) (cond (ltb q streams) (judgedFound t (find q t) limit rest) BeyondLimit) QuarterTooLarge
+
+-- rule 1: the payload starts with the quarter as a varint
+unfoldable pub judgedRead : Table → ℕ → ℕ → List ℕ → Varint → Judged
+judgedRead t streams limit frame Incomplete = ShortFrame
+judgedRead t streams limit frame (Whole q size) = judgedQuarter t streams limit q (length frame - size)
+
+-- refusals 15, 3, 6, and then the rules: a table, the stated stream limit, the datagram limit and a frame's payload
+unfoldable pub judgedOf : Table → ℕ → ℕ → List ℕ → Judged
+judgedOf t streams limit frame =
+    cond (isBad t)
+    (Refused badTable)
+    (cond (leb limit 65535) (cond (leb streams (2 ^ 60)) (judgedRead t streams limit frame (readVarint frame)) (Refused numberTooLarge)) (Refused limitTooLarge))
+
+-- the numbers of the rules; a refusal is no rule
+unfoldable pub ruleOf : Judged → Option ℕ
+ruleOf (Refused r) = none
+ruleOf ShortFrame = some 1
+ruleOf QuarterTooLarge = some 2
+ruleOf BeyondLimit = some 3
+ruleOf NoStream = some 4
+ruleOf ReceiveClosed = some 5
+ruleOf NoSemantics = some 6
+ruleOf TooLong = some 7
+ruleOf (Delivered place) = some 8
+
+-- ---- the payload: what follows the quarter, where it is delivered
+
+unfoldable pub behind : Varint → List ℕ → List ℕ
+behind Incomplete frame = []
+behind (Whole q size) frame = drop size frame
+
+unfoldable pub isDelivered : Judged → Bool
+isDelivered (Refused r) = false
+isDelivered ShortFrame = false
+isDelivered QuarterTooLarge = false
+isDelivered BeyondLimit = false
+isDelivered NoStream = false
+isDelivered ReceiveClosed = false
+isDelivered NoSemantics = false
+isDelivered TooLong = false
+isDelivered (Delivered place) = true
+
+unfoldable pub ifDelivered : Judged → List ℕ → List ℕ
+ifDelivered j payload = cond (isDelivered j) payload []
+
+unfoldable pub payloadOf : Table → ℕ → ℕ → List ℕ → List ℕ
+payloadOf t streams limit frame = ifDelivered (judgedOf t streams limit frame) (behind (readVarint frame) frame)
+
+-- ---- the table lent as rows: rows of unequal length are no table
+
+unfoldable pub judgedRows : List ℕ → List ℕ → ℕ → ℕ → List ℕ → Judged
+judgedRows qs ms streams limit frame = cond (eqb (length qs) (length ms)) (judgedOf (tableOf qs ms) streams limit frame) (Refused badTable)
+
+unfoldable pub payloadRows : List ℕ → List ℕ → ℕ → ℕ → List ℕ → List ℕ
+payloadRows qs ms streams limit frame = ifDelivered (judgedRows qs ms streams limit frame) (behind (readVarint frame) frame)

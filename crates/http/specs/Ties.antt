@@ -1,0 +1,24 @@
+-- Which error an answer is (document 01: the names of the errors, of the closing answers and of the rules). No other answer is one.
+use Rattle.capsule.specs.declared.reader.CloseAnswer.{CloseAnswer}
+use Rattle.capsule.specs.declared.reader.CloseAnswer.the-variants as close
+use Rattle.datagram.specs.declared.judge.Judged.{Judged}
+use Rattle.datagram.specs.declared.judge.Judged.the-variants as judged
+use Rattle.http.specs.declared.errors.ErrorOf.{ErrorOf}
+use Rattle.http.specs.declared.errors.ErrorOf.the-variants.{NoError, Is}
+use Rattle.http.specs.Errors.{truncated, noSemantics, shortFrame, quarterTooLarge, beyondLimit, httpError}
+
+unfoldable pub closeError : CloseAnswer → ErrorOf
+closeError (close.Refused r) = NoError
+closeError close.Clean = NoError
+closeError close.Truncated = Is (httpError truncated)
+
+unfoldable pub judgedError : Judged → ErrorOf
+judgedError (judged.Refused r) = NoError
+judgedError judged.ShortFrame = Is (httpError shortFrame)
+judgedError judged.QuarterTooLarge = Is (httpError quarterTooLarge)
+judgedError judged.BeyondLimit = Is (httpError beyondLimit)
+judgedError judged.NoStream = NoError
+judgedError judged.ReceiveClosed = NoError
+judgedError judged.NoSemantics = Is (httpError noSemantics)
+judgedError judged.TooLong = NoError
+judgedError (judged.Delivered place) = NoError

@@ -1,0 +1,35 @@
+// Which error an answer of the reader or of judging is.
+ghost use mathlib.Core.Path.{_≡_};
+ghost use Rattle.http.specs.Ties.{closeError, judgedError};
+use crate::errors::ErrorOf;
+use crate::errors::HttpError;
+use capsule::reader::CloseAnswer;
+use datagram::judge::Judged;
+
+// A clean close that finds a capsule unfinished is error 1.
+pub fn close_error(answer: CloseAnswer) -> ErrorOf
+    ensures { λ r. ⌜ r ≡ closeError answer ⌝ }
+{
+    match answer {
+        CloseAnswer::Refused(_) => ErrorOf::NoError,
+        CloseAnswer::Clean => ErrorOf::NoError,
+        CloseAnswer::Truncated => ErrorOf::Is(HttpError::TRUNCATED),
+    }
+}
+
+// Rule 6 is error 2; rules 1, 2 and 3 are errors 3, 4 and 5.
+pub fn judged_error(answer: Judged) -> ErrorOf
+    ensures { λ r. ⌜ r ≡ judgedError answer ⌝ }
+{
+    match answer {
+        Judged::Refused(_) => ErrorOf::NoError,
+        Judged::ShortFrame => ErrorOf::Is(HttpError::SHORT_FRAME),
+        Judged::QuarterTooLarge => ErrorOf::Is(HttpError::QUARTER_TOO_LARGE),
+        Judged::BeyondLimit => ErrorOf::Is(HttpError::BEYOND_LIMIT),
+        Judged::NoStream => ErrorOf::NoError,
+        Judged::ReceiveClosed => ErrorOf::NoError,
+        Judged::NoSemantics => ErrorOf::Is(HttpError::NO_SEMANTICS),
+        Judged::TooLong => ErrorOf::NoError,
+        Judged::Delivered(_) => ErrorOf::NoError,
+    }
+}

@@ -1,0 +1,43 @@
+use mathlib.Core.Path.{refl, sym, _∙_}
+use Rattle.streams.proofs.Decisions.{opening-rows, answered}
+use borrow.Author.Needs.{needs}
+use Rattle.streams.proofs.table.decide_open.Statement.{statement}
+use Rattle.streams.proofs.table.decide_open.Tie as tie
+
+is-bad-requires : tie.Need-is-bad-requires
+is-bad-requires c κs = search needs
+
+returns : tie.Need-returns
+returns c = answered _ _ _ _ _ _ (sym (c .before .is-bad .ensures) ∙ c .if1 .taken) (opening-rows _ _ _ _ refl) refl
+
+quarter-requires : tie.Need-quarter-requires
+quarter-requires c κs = search needs
+
+-- /work/h_streams/target/rlib/refusals.rlib/interface/lang/src/lib.rt:9:44
+enum-told : tie.Need-enum-told
+enum-told c = search needs
+
+enum-known-quarter : tie.Need-enum-known-quarter
+enum-known-quarter c = search needs
+
+open-quarter-requires : tie.Need-open-quarter-requires
+open-quarter-requires c κs = search needs
+
+returns-2 : tie.Need-returns-2
+returns-2 c = answered _ _ _ _ _ _ (sym (c .before .before .before .before .is-bad .ensures) ∙ c .before .before .before .if1 .left) (opening-rows _ _ _ _ (sym (c .before .before .quarter .ensures) ∙ c .enum-told .given .1)) refl
+
+returns-3 : tie.Need-returns-3
+returns-3 c = answered _ _ _ _ _ _ (sym (c .before .before .before .before .before .before .is-bad .ensures) ∙ c .before .before .before .before .before .if1 .left) (opening-rows _ _ _ _ (sym (c .before .before .before .before .quarter .ensures) ∙ c .before .before .quarter2 .given .1)) (sym (c .open-quarter .ensures))
+
+pub decide-open-spec : {M : Type 1} → statement M
+decide-open-spec =
+    tie.close
+    (tie.spec
+    is-bad-requires
+    returns
+    quarter-requires
+    enum-told
+    enum-known-quarter
+    open-quarter-requires
+    returns-2
+    returns-3)
