@@ -3,7 +3,7 @@ use mathlib.Core.Path.{_≡_, refl, sym, ap, subst, _∙_}
 use Prim.Native.Nat.{ℕ, zero, suc, _+_, _-_, _%_, _≤_, _<_}
 use native.Mathlib.Numerals.{add-one}
 use native.Mathlib.Omega.{arith}
-use mathlib.Core.Bool.{Bool, true, false, cond, _&&_, _||_}
+use mathlib.Core.Bool.{Bool, true, false, cond, _&&_, or-true, true≢false}
 use mathlib.Core.List.{List, [], _∷_}
 use lib.Dec.{eqb, ltb}
 use lib.ListN.{length, getD, set, drop, length-set, drop-of-length-le}
@@ -58,7 +58,7 @@ module _ (seen : List ℕ) where
 
       go : (u : Bool) → r .used ≡ u → (r .used ≡ true → getD (cond u (set seen (bucket r) 1) seen) (bucket r) 0 ≡ 1) × Marked (cond u (set seen (bucket r) 1) seen) rs
       go true x = (λ y. getD-set-same seen (bucket r) 1 0 fits, stay (bucket r) fits rs m)
-      go false x = (λ y. absurd (let z : _≡_ {A = Bool} true false = sym y ∙ x in let w : _≡_ {A = ℕ} 0 1 = cc in let n : ⊥ = omega arith in n), m)
+      go false x = (λ y. absurd (true≢false (sym y ∙ x)), m)
 
   length-marked : (r : StreamRecord) → length (marked r seen) ≡ length seen
   unfolding marked
@@ -97,10 +97,6 @@ up : (f : Table → Bool) → ((r : StreamRecord) (rs : Table) → f rs ≡ true
 up f step zero t h = h
 up f step (suc k) [] h = h
 up f step (suc k) (r ∷ rs) h = step r rs (up f step k rs h)
-
-or-true : (b : Bool) → (b || true) ≡ true
-or-true true = refl
-or-true false = refl
 
 module _ (t : Table) where
   pub down-first : (seen : List ℕ) (n : ℕ) → length seen ≡ 256 → n ≡ length t → Down t seen n
@@ -170,11 +166,13 @@ module _ (qs ms seen : List ℕ) (i : ℕ) (p : 0 < i) (d : Down (tableOf qs ms)
   last : getD (tableOf qs ms) (i - 1) blank ≡ row
   last = row-at qs ms (i - 1) inside
 
-  pub row-bad : isBadRecord row ≡ true → true ≡ isBad (tableOf qs ms)
-  row-bad b = any-found (tableOf qs ms) (i - 1) inside (rw last b)
+  -- the code's answers, and what each means
+  pub row-bad : (b : Bool) → b ≡ isBadRecord row → b ≡ true → true ≡ isBad (tableOf qs ms)
+  row-bad b e h = any-found (tableOf qs ms) (i - 1) inside (rw last (sym e ∙ h))
 
-  pub row-twice : again row (drop (i - 1 + 1) (tableOf qs ms)) ≡ true → true ≡ isBad (tableOf qs ms)
-  row-twice a = twice-found (tableOf qs ms) (i - 1) inside (rw last a)
+  pub row-twice : (b : Bool) → b ≡ again row (drop (i - 1 + 1) (tableOf qs ms)) → b ≡ true → true ≡ isBad (tableOf qs ms)
+  row-twice b e h = twice-found (tableOf qs ms) (i - 1) inside (rw last (sym e ∙ h))
 
-  pub row-next : (seen′ : List ℕ) → isBadRecord row ≡ false → again row (drop (i - 1 + 1) (tableOf qs ms)) ≡ false → seen′ ≡ marked row seen → Down (tableOf qs ms) seen′ (i - 1)
-  row-next seen′ b a s = down-next (tableOf qs ms) seen i p d seen′ (rw last b) (rw last a) (rw last s)
+  pub row-next : (b a : Bool) (seen′ : List ℕ) → b ≡ isBadRecord row → b ≡ false → a ≡ again row (drop (i - 1 + 1) (tableOf qs ms)) → a ≡ false
+      → seen′ ≡ marked row seen → Down (tableOf qs ms) seen′ (i - 1)
+  row-next b a seen′ e h f g s = down-next (tableOf qs ms) seen i p d seen′ (rw last (sym e ∙ h)) (rw last (sym f ∙ g)) (rw last s)

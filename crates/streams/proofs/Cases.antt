@@ -17,7 +17,7 @@ use Rattle.streams.specs.declared.table.Opening.the-variants as opening
 use Rattle.streams.specs.declared.table.Closing.{Closing}
 use Rattle.streams.specs.declared.table.Closing.the-variants as closing
 use Rattle.streams.specs.Records.{blank, bothClosed, isBlank, isBadRecord, holds, withClosed, closedSide}
-use Rattle.streams.specs.Tables.{Table, anyBad, standsIn, standsTwice, isBad, next, find, lowestFree, openAt, openQuarter, openingOf, closeAt, closeQuarter, closingOf, tableClosed}
+use Rattle.streams.specs.Tables.{Table, anyBad, standsIn, standsTwice, isBad, next, find, lowestFree, openAt, openQuarter, openingOf, closeAt, closeQuarter, closingOf, tableOpened, tableClosed}
 use Rattle.streams.specs.Rows.{recordOf, tableOf, isBadRows, openingRows, closingRows}
 
 abbrev stream : ℕ → StreamId
@@ -42,6 +42,8 @@ pub data Pin : Type 0 where
   -- a table and a stream ID
   opens : Table → ℕ → Opening → Pin
   closes : Table → ℕ → List Side → List Closing → Pin
+  -- a table, a stream ID and its semantics, and the table after opening
+  leaves : Table → ℕ → Bool → Table → Pin
   -- the same over two rows
   opensRows : List ℕ → List ℕ → ℕ → Opening → Pin
   closesRows : List ℕ → List ℕ → ℕ → Side → Closing → Pin
@@ -52,6 +54,7 @@ Holds (rows qs ms b) = isBadRows qs ms ≡ b
 Holds (finds t q f) = find q t ≡ f
 Holds (opens t id o) = openingOf t (stream id) ≡ o
 Holds (closes t id sides cs) = closings t (stream id) sides ≡ cs
+Holds (leaves t id semantics t′) = tableOpened t (stream id) semantics (openingOf t (stream id)) ≡ t′
 Holds (opensRows qs ms id o) = openingRows qs ms (stream id) ≡ o
 Holds (closesRows qs ms id side c) = closingRows qs ms (stream id) side ≡ c
 
@@ -101,6 +104,10 @@ onCalls =
     opens (blank ∷ []) 0 (opening.Opened 0)
     ∷ opens (rec true 1 true true true ∷ blank ∷ blank ∷ []) 0 (opening.Opened 1)
     ∷ opens (blank ∷ rec true 0 true true true ∷ []) 0 (opening.Refused (refusal 9))
+    -- both sides open, with the semantics that was named; a refused call leaves the table
+    ∷ leaves (rec true 0 true true true ∷ blank ∷ []) 4 false full
+    ∷ leaves (rec true 0 true true true ∷ blank ∷ []) 4 true (rec true 0 true true true ∷ rec true 1 true true true ∷ [])
+    ∷ leaves full 8 true full
     -- no place at all
     ∷ opens [] 0 (opening.Refused (refusal 8))
     ∷ closes [] 0 (Send ∷ []) (closing.Refused (refusal 10) ∷ [])
@@ -132,8 +139,8 @@ unfolding isBad anyBad standsIn standsTwice isBadRecord isBlank bothClosed holds
 on-tables = (refl, (refl, (refl, (refl, (refl, (refl, (refl, (refl, (refl, (refl, (refl, (refl, (refl, (refl, (refl, (refl, (refl, (refl, (refl, (refl, (refl, (refl, (refl, tt)))))))))))))))))))))))
 
 on-calls : All onCalls
-unfolding isBad anyBad standsIn standsTwice isBadRecord isBlank bothClosed holds largestQuarter isRequest quarterOf find next lowestFree openAt openQuarter openingOf withClosed closedSide closeAt closeQuarter closingOf tableClosed closings recordOf tableOf openingRows closingRows
-on-calls = (refl, (refl, (refl, (refl, (refl, (refl, (refl, (refl, (refl, (refl, (refl, (refl, (refl, (refl, (refl, (refl, (refl, (refl, tt))))))))))))))))))
+unfolding isBad anyBad standsIn standsTwice isBadRecord isBlank bothClosed holds largestQuarter isRequest quarterOf find next lowestFree openAt openQuarter openingOf withClosed closedSide closeAt closeQuarter closingOf tableOpened tableClosed closings recordOf tableOf openingRows closingRows
+on-calls = (refl, (refl, (refl, (refl, (refl, (refl, (refl, (refl, (refl, (refl, (refl, (refl, (refl, (refl, (refl, (refl, (refl, (refl, (refl, (refl, (refl, tt)))))))))))))))))))))
 
 pub pinned : Pinned
 pinned = (on-tables, on-calls)

@@ -1,8 +1,8 @@
 -- Records and tables, as the code reads them out of rows of numbers. Assumes nothing.
-use mathlib.Core.Path.{_≡_, refl, ap, _∙_}
+use mathlib.Core.Path.{_≡_, refl, sym, ap, _∙_}
 use Prim.Native.Nat.{ℕ, zero, suc, _+_, _*_, _/_, _%_, _≤_, _<_}
 use native.Mathlib.Omega.{arith}
-use mathlib.Core.Bool.{Bool, true, false, cond, not, _&&_, _||_}
+use mathlib.Core.Bool.{Bool, true, false, cond, not, and-true, and-false, or-false}
 use mathlib.Core.List.{List, [], _∷_}
 use lib.Dec.{leb, eqb}
 use lib.ListN.{length, getD, drop}
@@ -12,20 +12,16 @@ use Rattle.streams.specs.declared.record.Side.the-variants.{Send}
 use Rattle.streams.specs.declared.record.Side.{Side}
 use Rattle.streams.specs.declared.table.Closing.the-variants.{Closed}
 use Rattle.streams.specs.Records.{blank, bothClosed, holds, withClosed, closedSide}
-use Rattle.streams.specs.Tables.{isBad, closeAt}
+use Rattle.streams.specs.Tables.{Table, isBad, closeAt}
 use Rattle.streams.specs.declared.table.Found.the-variants.{At}
 use Rattle.streams.specs.Search.{shift}
-use Rattle.streams.specs.Claims.{MarksReadBack}
+use Rattle.streams.specs.Claims.{MarksReadBack, RowsStored}
 use Rattle.streams.proofs.Places.{first, from-hit, from-miss}
 use Rattle.streams.specs.Rows.{recordOf, markOf, tableOf, isBadRows, rowAt}
 
 pub frees-send : (r : StreamRecord) → not (r .receive) ≡ bothClosed (withClosed Send r)
 unfolding bothClosed withClosed
-frees-send r = go (r .receive)
-  where
-    go : (b : Bool) → not b ≡ not (b || false)
-    go true = refl
-    go false = refl
+frees-send r = ap not (sym (or-false (r .receive)))
 
 pub twice-not : (b : Bool) → b ≡ not (not b)
 twice-not true = refl
@@ -90,6 +86,14 @@ row-at (q ∷ qs) [] i h = absurd (let n : ⊥ = omega arith in n)
 row-at (q ∷ qs) (m ∷ ms) zero h = refl
 row-at (q ∷ qs) (m ∷ ms) (suc i) h = row-at qs ms i (omega arith)
 
+pub rows-stored : RowsStored
+unfolding tableOf
+rows-stored [] ms i r = refl
+rows-stored (q ∷ qs) [] zero r = refl
+rows-stored (q ∷ qs) [] (suc i) r = refl
+rows-stored (q ∷ qs) (m ∷ ms) zero r = ap (λ (s : StreamRecord). s ∷ tableOf qs ms) (marks-read-back r)
+rows-stored (q ∷ qs) (m ∷ ms) (suc i) r = ap (λ (t : Table). recordOf q m ∷ t) (rows-stored qs ms i r)
+
 module _ (qs ms : List ℕ) (i : ℕ) where
   pub used-row : getD ms i 0 % 2 ≡ 1 → rowAt qs ms i .used ≡ true
   unfolding recordOf
@@ -101,19 +105,11 @@ module _ (qs ms : List ℕ) (i : ℕ) where
 
   pub holds-not : (q : ℕ) → (getD qs i 0 ≡ q → ⊥) → false ≡ holds q (rowAt qs ms i)
   unfolding holds recordOf
-  holds-not q n = rw (ne-eqb (getD qs i 0) q n) (go (eqb (getD ms i 0 % 2) 1))
-    where
-      go : (b : Bool) → false ≡ (b && false)
-      go true = refl
-      go false = refl
+  holds-not q n = rw (ne-eqb (getD qs i 0) q n) (sym (and-false (eqb (getD ms i 0 % 2) 1)))
 
   pub holds-used : (q : ℕ) → getD qs i 0 ≡ q → eqb (getD ms i 0 % 2) 1 ≡ holds q (rowAt qs ms i)
   unfolding holds recordOf
-  holds-used q e = rw (eq-eqb (getD qs i 0) q e) (go (eqb (getD ms i 0 % 2) 1))
-    where
-      go : (b : Bool) → b ≡ (b && true)
-      go true = refl
-      go false = refl
+  holds-used q e = rw (eq-eqb (getD qs i 0) q e) (sym (and-true (eqb (getD ms i 0 % 2) 1)))
 
   module _ (p : StreamRecord → Bool) (h : i < length (tableOf qs ms)) where
     pub row-hit : p (rowAt qs ms i) ≡ true → shift i (first p (drop i (tableOf qs ms))) ≡ At i

@@ -2,7 +2,8 @@
 use mathlib.Core.Path.{_≡_}
 use Prim.Native.Nat.{ℕ, _<_}
 use mathlib.Core.Bool.{Bool, true, false}
-use lib.ListN.{length, getD}
+use mathlib.Core.List.{List}
+use lib.ListN.{length, getD, set}
 use Rattle.refusals.specs.declared.Refusal.{Refusal}
 use Rattle.refusals.specs.Numbers.{noFreePlace}
 use Rattle.wire.specs.declared.units.StreamId.{StreamId}
@@ -18,7 +19,7 @@ use Rattle.streams.specs.declared.table.Closing.{Closing}
 use Rattle.streams.specs.declared.table.Closing.the-variants as closing
 use Rattle.streams.specs.Records.{blank, bothClosed, holds, withClosed, closedSide}
 use Rattle.streams.specs.Tables.{Table, isBad, find, openingOf, closingOf, tableOpened, tableClosed}
-use Rattle.streams.specs.Rows.{recordOf, markOf}
+use Rattle.streams.specs.Rows.{recordOf, markOf, tableOf}
 
 -- every place below n is used
 abbrev pub UsedBelow : Table → ℕ → Type 0
@@ -29,6 +30,11 @@ UsedBelow t n = (k : ℕ) → k < n → getD t k blank .used ≡ true
 -- a record is its quarter and its marks
 abbrev pub MarksReadBack : Type 0
 MarksReadBack = (r : StreamRecord) → recordOf (r .quarter .0) (markOf r) ≡ r
+
+-- a record that is stored in both rows is stored in the table, and nowhere else
+abbrev pub RowsStored : Type 0
+RowsStored =
+    (qs ms : List ℕ) (i : ℕ) (r : StreamRecord) → tableOf (set qs i (r .quarter .0)) (set ms i (markOf r)) ≡ set (tableOf qs ms) i r
 
 -- a place that was found is one of the table, and has the quarter
 abbrev pub FindRight : Type 0

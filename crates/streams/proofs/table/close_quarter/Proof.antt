@@ -19,7 +19,6 @@ close-at-requires c κs =
     let f = sym (find-first _ _) ∙ sym (c .before .before .before .find .ensures) ∙ c .before .i .given .1 in
     omega (arith, first-at _ _ _ f .within, length-table (a .quarters .now) (a .marks .now))
 
--- /work/h_streams/target/rlib/refusals.rlib/interface/lang/src/lib.rt:12:36
 enum-told : tie.Need-enum-told
 enum-told c = search needs
 

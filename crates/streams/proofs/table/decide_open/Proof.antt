@@ -13,7 +13,6 @@ returns c = answered _ _ _ _ _ _ (sym (c .before .is-bad .ensures) ∙ c .if1 .t
 quarter-requires : tie.Need-quarter-requires
 quarter-requires c κs = search needs
 
--- /work/h_streams/target/rlib/refusals.rlib/interface/lang/src/lib.rt:9:44
 enum-told : tie.Need-enum-told
 enum-told c = search needs
 

@@ -1,5 +1,5 @@
 use Rattle.streams.proofs.Buckets.{rows-inside, row-bad, row-twice, row-next}
-use mathlib.Core.Path.{refl, sym, _∙_}
+use mathlib.Core.Path.{refl}
 use native.Mathlib.Omega.{arith}
 use lib.ListN.{replicate}
 use Rattle.streams.specs.Rows.{tableOf}
@@ -24,7 +24,7 @@ bad-at-requires : tie.Need-bad-at-requires Inv-loop μ-loop
 bad-at-requires c κs = let l = c .before .loop in rows-inside _ _ (l .seen) (l .i) (c .loop-test .taken) (l .inv)
 
 returns : tie.Need-returns Inv-loop μ-loop
-returns c = let l = c .before .before .before .loop in row-bad _ _ (l .seen) (l .i) (c .before .before .loop-test .taken) (l .inv) (sym (c .before .bad-at .ensures) ∙ c .if1 .taken)
+returns c = let l = c .before .before .before .loop in row-bad _ _ (l .seen) (l .i) (c .before .before .loop-test .taken) (l .inv) _ (c .before .bad-at .ensures) (c .if1 .taken)
 
 met-requires : tie.Need-met-requires Inv-loop μ-loop
 met-requires c κs =
@@ -34,7 +34,7 @@ met-requires c κs =
     (r .0, r .1, down-marks _ (l .seen) (l .i) t (l .inv))
 
 returns-2 : tie.Need-returns-2 Inv-loop μ-loop
-returns-2 c = let l = c .before .before .before .before .before .before .loop in row-twice _ _ (l .seen) (l .i) (c .before .before .before .before .before .loop-test .taken) (l .inv) (sym (c .before .met .ensures) ∙ c .if2 .taken)
+returns-2 c = let l = c .before .before .before .before .before .before .loop in row-twice _ _ (l .seen) (l .i) (c .before .before .before .before .before .loop-test .taken) (l .inv) _ (c .before .met .ensures) (c .if2 .taken)
 
 mark-requires : tie.Need-mark-requires Inv-loop μ-loop
 mark-requires c κs = let l = c .before .before .before .before .before .before .before .loop in rows-inside _ _ (l .seen) (l .i) (c .before .before .before .before .before .before .loop-test .taken) (l .inv)
@@ -45,7 +45,7 @@ loop-less c = omega arith
 loop-again : tie.Need-loop-again Inv-loop μ-loop
 loop-again c =
     let l = c .before .before .before .before .before .before .before .before .loop in
-    row-next _ _ (l .seen) (l .i) (c .before .before .before .before .before .before .before .loop-test .taken) (l .inv) _ (sym (c .before .before .before .before .before .before .bad-at .ensures) ∙ c .before .before .before .before .before .if1 .left) (sym (c .before .before .before .met .ensures) ∙ c .before .before .if2 .left) (c .mark .ensures)
+    row-next _ _ (l .seen) (l .i) (c .before .before .before .before .before .before .before .loop-test .taken) (l .inv) _ _ _ (c .before .before .before .before .before .before .bad-at .ensures) (c .before .before .before .before .before .if1 .left) (c .before .before .before .met .ensures) (c .before .before .if2 .left) (c .mark .ensures)
 
 returns-3 : tie.Need-returns-3 Inv-loop μ-loop
 returns-3 c =

@@ -3,7 +3,6 @@ use borrow.Author.Needs.{needs}
 use Rattle.streams.proofs.table.open_at.Statement.{statement}
 use Rattle.streams.proofs.table.open_at.Tie as tie
 
--- /work/h_streams/target/rlib/refusals.rlib/interface/lang/src/lib.rt:10:37
 enum-told : tie.Need-enum-told
 enum-told c = search needs
 

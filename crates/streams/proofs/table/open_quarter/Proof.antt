@@ -8,7 +8,6 @@ use Rattle.streams.proofs.table.open_quarter.Tie as tie
 find-requires : tie.Need-find-requires
 find-requires c κs = search needs
 
--- /work/h_streams/target/rlib/refusals.rlib/interface/lang/src/lib.rt:11:40
 enum-told : tie.Need-enum-told
 enum-told c = search needs
 

@@ -1,0 +1,14 @@
+-- Document 01's lines. Assumes nothing.
+use mathlib.Core.Path.{refl}
+use Rattle.lines.specs.Text.{text}
+use Rattle.lines.specs.Decimal.{lastDigit, decimalBy, decimal}
+use Rattle.lines.specs.Lines.{oneNumber, twoNumbers, limitLine, reportLine, endLine}
+use Rattle.lines.specs.Claims.{ListingOfS, OtherLines}
+
+pub listing-of-s : ListingOfS
+unfolding text lastDigit decimalBy decimal oneNumber twoNumbers limitLine reportLine endLine
+listing-of-s = refl
+
+pub other-lines : OtherLines
+unfolding text lastDigit decimalBy decimal oneNumber twoNumbers limitLine reportLine endLine
+other-lines = (refl, refl)

@@ -1,0 +1,34 @@
+-- What holds of the definitions. Each claim is a type here, and is proved in proofs/Decimals.antt or proofs/Samples.antt.
+use mathlib.Core.Path.{_≡_}
+use Prim.Native.Nat.{ℕ, _≤_, _<_}
+use mathlib.Core.List.{List, [], _∷_, _++_}
+use lib.ListN.{getD}
+use Rattle.capsule.specs.declared.opening.Report.the-variants.{Delivered, Dropped, Skipped}
+use Rattle.capsule.specs.declared.reader.CloseAnswer.the-variants.{Clean, Truncated}
+use Rattle.lines.specs.Text.{text}
+use Rattle.lines.specs.Lines.{limitLine, reportLine, endLine}
+use Rattle.lines.specs.Decimal.{decimal, value}
+
+-- the digits read back are the number
+abbrev pub ReadBack : Type 0
+ReadBack = (n : ℕ) → value (decimal n) ≡ n
+
+abbrev pub AllDigits : List ℕ → Type 0
+AllDigits [] = Unit {0}
+AllDigits (c ∷ s) = (48 ≤ c) × (c ≤ 57) × AllDigits s
+
+abbrev pub DigitsOnly : Type 0
+DigitsOnly = (n : ℕ) → AllDigits (decimal n)
+
+-- no zero stands in front, but in the text of 0
+abbrev pub NoLeadingZero : Type 0
+NoLeadingZero = (decimal 0 ≡ text "0") × ((n : ℕ) → 0 < n → 48 < getD (decimal n) 0 0)
+
+-- document 01's listing of stream S, whole, and its other two lines
+abbrev pub ListingOfS : Type 0
+ListingOfS =
+    limitLine 1200 ++ reportLine (Delivered 3) ++ reportLine (Skipped 23 0) ++ reportLine (Skipped 64 2) ++ reportLine (Delivered 0) ++ endLine Clean
+    ≡ text "limit 1200\ndatagram 3\nskip 23 0\nskip 64 2\ndatagram 0\nend clean\n"
+
+abbrev pub OtherLines : Type 0
+OtherLines = (reportLine (Dropped 1201) ≡ text "drop 1201\n") × (endLine Truncated ≡ text "end truncated\n")

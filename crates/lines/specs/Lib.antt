@@ -1,0 +1,5 @@
+pub mod Text
+pub mod Decimal
+pub mod Lines
+pub mod Writing
+pub mod Claims

@@ -1,0 +1,270 @@
+// The listing program (document 01, "Bench cases"): the capsules of a stream, one line each.
+ghost use mathlib.Core.Path.{_≡_};
+ghost use mathlib.Core.Bool.{true};
+ghost use Prim.Native.Nat.{_+_, _≤_, _<_};
+ghost use lib.ListN.{length};
+ghost use Rattle.capsule.specs.Calls.{lent};
+ghost use Rattle.lines.specs.Lines.{endLine, longest};
+ghost use Rattle.lister.specs.Listing.{listingOf, Grows, grown, lineIn, Noted, Within, Listed};
+use capsule::opening::Role;
+use capsule::reader::CloseAnswer;
+use capsule::reader::Ended;
+use capsule::reader::FeedAnswer;
+use capsule::reader::Opened;
+use capsule::reader::Reader;
+use libc::STDERR_FILENO;
+use libc::STDIN_FILENO;
+use libc::STDOUT_FILENO;
+use lines::LONGEST;
+use lines::Line;
+
+// The longest DATAGRAM that is delivered.
+const LIMIT: u64 = 1200;
+
+// How far a listing has come.
+struct Listing {
+    reader: Reader,
+    // how many bytes the input block has, and how many of them are used up
+    have: usize,
+    used: usize,
+    // how many bytes of lines wait in the output block
+    held: usize,
+    // there is more to do
+    going: bool,
+}
+
+impl Listing {
+    fn new(reader: Reader, have: usize, used: usize, held: usize, going: bool) -> Self
+        ensures { λ r. ⌜ r ≡ listingOf reader have used held going ⌝ }
+    {
+        Self {
+            reader: reader,
+            have: have,
+            used: used,
+            held: held,
+            going: going,
+        }
+    }
+}
+
+// What waits with a line that was written behind it. A caller shows that it was.
+fn grow(held: usize, line: Line) -> usize
+    requires { ⌜ Grows held line ⌝ }
+    ensures { λ r. ⌜ r ≡ grown held line ⌝ }
+{
+    match line {
+        Line::Written(size) => held + size,
+        Line::NoRoom => held,
+    }
+}
+
+// The line of what ended in a feeding, behind those that wait. Answers what waits then.
+fn note(ended: Ended, block: &mut [u8], held: usize) -> usize
+    requires { ⌜ held + longest ≤ length (now block) ⌝ }
+    ensures { λ r. ⌜ Noted (lineIn ended) (now (block .entry)) held r (now (block .exit)) ⌝ }
+{
+    match ended {
+        Ended::Nothing => held,
+        Ended::Capsule(report) => {
+            let line = lines::write_report(report, block, held);
+            grow(held, line)
+        }
+    }
+}
+
+// The last line, likewise.
+fn note_end(end: CloseAnswer, block: &mut [u8], held: usize) -> usize
+    requires { ⌜ held + longest ≤ length (now block) ⌝ }
+    ensures { λ r. ⌜ Noted (endLine end) (now (block .entry)) held r (now (block .exit)) ⌝ }
+{
+    let line = lines::write_end(end, block, held);
+    grow(held, line)
+}
+
+// Whether a feeding is due, and any line of it has room.
+fn is_due(turns: usize, used: usize, have: usize, held: usize, room: usize) -> bool
+    requires { ⌜ held ≤ room ⌝ }
+    ensures { λ r. ⌜ (r ≡ true → (0 < turns) × (used < have) × (held + longest ≤ room)) ⌝ }
+{
+    if turns == 0 {
+        return false;
+    }
+    if used >= have {
+        return false;
+    }
+    room - held >= LONGEST
+}
+
+// Feeds what was read, until it is used up or a line might not fit any more.
+fn list_read(
+    l: Listing,
+    input: &[u8],
+    gathering: &mut [u8],
+    output: &mut [u8],
+    block: &mut [u8],
+) -> Listing
+    requires { ⌜ Within l (length (now input)) (length (now block)) ⌝ }
+    ensures { λ r. ⌜ Listed l (now (input .entry)) (lent (now (gathering .entry)) (now (output .entry))) (now (block .entry)) r (lent (now (gathering .exit)) (now (output .exit))) (now (block .exit)) ⌝ }
+{
+    let have = l.have;
+    let mut reader = l.reader;
+    let mut used = l.used;
+    let mut held = l.held;
+    let mut turns = have;
+    while is_due(turns, used, have, held, block.len()) {
+        let fed = reader.feed(&input[used..have], gathering, output);
+        let answer = fed.answer;
+        reader = fed.reader;
+        match answer {
+            FeedAnswer::Refused(why) => {
+                let last = note_end(CloseAnswer::Refused(why), block, held);
+                return Listing::new(reader, have, used, last, false);
+            }
+            FeedAnswer::Took {
+                consumed,
+                written: _,
+                ended,
+            } => {
+                used += consumed;
+                held = note(ended, block, held);
+            }
+        }
+        turns -= 1;
+    }
+    Listing::new(reader, have, used, held, true)
+}
+
+// Writes the lines that wait. Standard error gets a line where that fails.
+fn write_held(block: &[u8], held: usize) -> bool
+    requires { ⌜ held ≤ length (now block) ⌝ }
+{
+    if io::write_all(STDOUT_FILENO, &block[..held]) {
+        return true;
+    }
+    os::fail(b"standard output");
+    false
+}
+
+// One read, or the last line at the end of the input. Standard error gets a line where reading fails, and there is no last line.
+fn read_more(fd: i32, name: &[u8], l: Listing, input: &mut [u8], block: &mut [u8]) -> Listing
+    requires { ⌜ l .held + longest ≤ length (now block) ⌝ }
+    ensures { λ r. ⌜ Within r (length (now (input .exit))) (length (now (block .exit))) ⌝ }
+{
+    let reader = l.reader;
+    let held = l.held;
+    let got = libc::read(fd, input);
+    if got < 0 {
+        os::fail(name);
+        return Listing::new(reader, 0, 0, held, false);
+    }
+    if got == 0 {
+        let closed = reader.close();
+        let end = closed.answer;
+        let last = note_end(end, block, held);
+        return Listing::new(reader, 0, 0, last, false);
+    }
+    let have = io::count(got, input);
+    Listing::new(reader, have, 0, held, true)
+}
+
+// One step of a listing: writes where a line might not fit, else feeds what was read, else reads.
+fn step(
+    fd: i32,
+    name: &[u8],
+    l: Listing,
+    input: &mut [u8],
+    gathering: &mut [u8],
+    output: &mut [u8],
+    block: &mut [u8],
+) -> Listing
+    requires { ⌜ Within l (length (now input)) (length (now block)) ⌝ }
+    ensures { λ r. ⌜ Within r (length (now (input .exit))) (length (now (block .exit))) ⌝ }
+{
+    let held = l.held;
+    if block.len() - held < LONGEST {
+        let going = write_held(block, held);
+        let reader = l.reader;
+        return Listing::new(reader, l.have, l.used, 0, going);
+    }
+    if l.used < l.have {
+        return list_read(l, input, gathering, output, block);
+    }
+    read_more(fd, name, l, input, block)
+}
+
+// The first line waits.
+fn start(reader: Reader, block: &mut [u8]) -> Listing
+    requires { ⌜ longest ≤ length (now block) ⌝ }
+    ensures { λ r. ⌜ Within r 0 (length (now (block .exit))) ⌝ }
+{
+    let line = lines::write_limit(LIMIT, block, 0);
+    Listing::new(reader, 0, 0, grow(0, line), true)
+}
+
+// Goes on until the last line waits or a failure was said, and writes what waits then.
+fn list_all(
+    fd: i32,
+    name: &[u8],
+    reader: Reader,
+    input: &mut [u8],
+    gathering: &mut [u8],
+    output: &mut [u8],
+    block: &mut [u8],
+)
+    requires { ⌜ longest ≤ length (now block) ⌝ }
+{
+    let mut l = start(reader, block);
+    let mut turns = u64::MAX;
+    while turns > 0 && l.going {
+        l = step(fd, name, l, input, gathering, output, block);
+        turns -= 1;
+    }
+    write_held(block, l.held);
+}
+
+// Lists what a descriptor reads. The name is for messages.
+fn list(fd: i32, name: &[u8]) {
+    let mut input = io::large_buffer();
+    let mut block = io::large_buffer();
+    let mut gathering = [0u8; 1200];
+    // an endpoint writes nothing to it
+    let mut output = [0u8; 1];
+    let opened = Reader::open(Role::Endpoint, LIMIT, false);
+    match opened {
+        Opened::Refused(_) => {
+            io::write_all(STDERR_FILENO, b"the limit is refused\n");
+        }
+        Opened::Ready(reader) => {
+            list_all(
+                fd,
+                name,
+                reader,
+                &mut input,
+                &mut gathering,
+                &mut output,
+                &mut block,
+            );
+        }
+    }
+}
+
+// Lists the file that the first argument names, or standard input.
+pub fn run() {
+    if os::arg_count() < 2 {
+        list(STDIN_FILENO, b"standard input");
+        return;
+    }
+    let mut path = io::buffer();
+    let n = os::arg(1, &mut path);
+    if os::errno() != 0 {
+        os::fail(b"first argument");
+        return;
+    }
+    let fd = os::open_read(&path[..n]);
+    if fd < 0 {
+        os::fail(&path[..n]);
+        return;
+    }
+    list(fd, &path[..n]);
+    libc::close(fd);
+}
