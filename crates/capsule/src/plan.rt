@@ -3,6 +3,7 @@ ghost use mathlib.Core.Path.{_≡_};
 ghost use Prim.Native.Nat.{_≤_};
 ghost use mathlib.Core.Bool.{true};
 ghost use lib.ListN.{length};
+ghost use Rattle.wire.specs.Partial.{partial};
 ghost use Rattle.capsule.specs.Reader.{isMakeablePhase, planValue, planHead, planLength, planType, planOf, heldOf};
 use crate::opening::Opening;
 use crate::reader::Ended;
@@ -69,10 +70,14 @@ fn plan_head(next: Phase, consumed: usize, forward: bool) -> Plan
 }
 
 // The length stands in the piece from `at` on, behind the part of it that came before.
-fn plan_length(op: Opening, piece: &[u8], at: usize, ctype: u64, part: Partial) -> Plan
+fn plan_length(op: Opening, piece: &[u8], at: usize, ctype: u64, have: u8, raw: u64) -> Plan
     requires { ⌜ at ≤ length (now piece) ⌝ }
-    ensures { λ r. ⌜ r ≡ planLength op (now (piece .entry)) at ctype part ⌝ }
+    ensures { λ r. ⌜ r ≡ planLength op (now (piece .entry)) at ctype (partial have raw) ⌝ }
 {
+    let part = Partial {
+        have: have,
+        raw: raw,
+    };
     let taken = part.take(&piece[at..]);
     match taken {
         Taken::Impossible => plan_head(Phase::InLength(ctype, part), 0, false),
@@ -91,7 +96,7 @@ fn plan_type(op: Opening, piece: &[u8], part: Partial) -> Plan
     match taken {
         Taken::Impossible => plan_head(Phase::InType(part), 0, false),
         Taken::More(more) => plan_head(Phase::InType(more), piece.len(), false),
-        Taken::Ends { used, value } => plan_length(op, piece, used, value, Partial::EMPTY),
+        Taken::Ends { used, value } => plan_length(op, piece, used, value, 0, 0),
     }
 }
 
@@ -101,7 +106,7 @@ pub(crate) fn plan_of(op: Opening, piece: &[u8], phase: Phase) -> Plan
 {
     match phase {
         Phase::InType(part) => plan_type(op, piece, part),
-        Phase::InLength(ctype, part) => plan_length(op, piece, 0, ctype, part),
+        Phase::InLength(ctype, part) => plan_length(op, piece, 0, ctype, part.have, part.raw),
         Phase::InValue(ctype, size, left) => plan_value(op, piece, 0, ctype, size, left),
     }
 }

@@ -170,8 +170,6 @@ impl Reader {
         let phase = self.phase;
         let held = held_of(phase);
         let plan = plan_of(opening, piece, phase);
-        let next = plan.next;
-        let ended = plan.ended;
         store_bytes(
             piece,
             gathering,
@@ -181,6 +179,8 @@ impl Reader {
             plan.place,
         );
         let written = forward_bytes(piece, output, plan.forward, held, plan.consumed);
+        let next = plan.next;
+        let ended = plan.ended;
         let reader = Reader {
             opening: opening,
             phase: next,

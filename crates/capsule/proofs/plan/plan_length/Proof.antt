@@ -2,7 +2,7 @@ use native.Mathlib.Omega.{arith}
 use Prim.Native.Nat.{_+_, _≤_}
 use mathlib.Core.Path.{_≡_, sym, ap, _∙_}
 use lib.ListN.{length, drop, length-drop}
-use Rattle.wire.specs.Partial.{takeVarint}
+use Rattle.wire.specs.Partial.{partial, takeVarint}
 use Rattle.capsule.specs.Reader.{planHead}
 use Rattle.capsule.proofs.Planning.{ends-within, rest-of, length-impossible, length-more, length-ends}
 use borrow.Author.Needs.{needs}
@@ -10,10 +10,10 @@ use Rattle.capsule.proofs.plan.plan_length.Statement.{statement}
 use Rattle.capsule.proofs.plan.plan_length.Tie as tie
 
 -- what is taken of the rest of the piece, and where a length ends in it
-taken : (c : tie.After-take) → c .take .result ≡ takeVarint (c .before .before .before .args .part) (drop (c .before .before .before .args .at) (c .before .before .before .args .piece .now))
+taken : (c : tie.After-take) → c .take .result ≡ takeVarint (partial (c .before .before .before .args .have) (c .before .before .before .args .raw)) (drop (c .before .before .before .args .at) (c .before .before .before .args .piece .now))
 taken c =
     let entry = c .before .before .before in
-    c .take .ensures ∙ ap (takeVarint (entry .args .part)) (rest-of (entry .args .piece .now) (entry .args .at))
+    c .take .ensures ∙ ap (takeVarint (partial (entry .args .have) (entry .args .raw))) (rest-of (entry .args .piece .now) (entry .args .at))
 
 ends : (c : tie.After-known-told2) → c .before .before .before .before .before .before .args .at + c .before .taken2 .given .0 .0 ≤ length (c .before .before .before .before .before .before .args .piece .now)
 ends c =

@@ -15,7 +15,6 @@ returns c =
 quarter-requires : tie.Need-quarter-requires
 quarter-requires c κs = search needs
 
--- /work/h_dgram/target/rlib/refusals.rlib/interface/lang/src/lib.rt:9:44
 enum-told : tie.Need-enum-told
 enum-told c = search needs
 

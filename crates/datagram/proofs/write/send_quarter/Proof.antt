@@ -11,7 +11,6 @@ use Rattle.datagram.proofs.write.send_quarter.Tie as tie
 find-requires : tie.Need-find-requires
 find-requires c κs = search needs
 
--- /work/h_dgram/target/rlib/refusals.rlib/interface/lang/src/lib.rt:12:36
 enum-told : tie.Need-enum-told
 enum-told c = search needs
 

@@ -1,0 +1,2 @@
+pub mod Connections
+pub mod Claims

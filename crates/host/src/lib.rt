@@ -1,0 +1,2 @@
+// What hosts keep: readers that are changed where they lie.
+pub mod reader;
