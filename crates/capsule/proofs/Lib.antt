@@ -1,3 +1,4 @@
 pub mod Planning
 pub mod Moving
 pub mod Verdicts
+pub mod Reaching

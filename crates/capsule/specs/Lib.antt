@@ -5,3 +5,4 @@ pub mod Book
 pub mod State
 pub mod Reader
 pub mod Moves
+pub mod Reaching

@@ -4,7 +4,8 @@ ghost use Prim.Native.Nat.{_≤_};
 ghost use mathlib.Core.Bool.{true};
 ghost use lib.ListN.{length};
 ghost use Rattle.wire.specs.Partial.{partial};
-ghost use Rattle.capsule.specs.Reader.{isMakeablePhase, planValue, planHead, planLength, planType, planOf, heldOf};
+ghost use Rattle.capsule.specs.Reader.{noBytes, isMakeablePhase, planValue, planHead, planLength, planType, planOf, heldOf};
+ghost use Rattle.capsule.specs.Reaching.{Reaches};
 use crate::opening::Opening;
 use crate::reader::Ended;
 use crate::reader::Phase;
@@ -21,6 +22,25 @@ pub struct Plan {
     pub store: bool,
     pub at: usize,
     pub place: u64,
+}
+
+// What a piece comes to before the value.
+pub enum Reached {
+    // it ends there
+    Stops(Plan),
+    // the value stands in it from `at` on, and `left` bytes of it are to come
+    Value {
+        at: usize,
+        ctype: u64,
+        size: u64,
+        left: u64,
+    },
+}
+
+fn wide(b: u8) -> u64
+    ensures { λ r. ⌜ r ≡ b ⌝ }
+{
+    b as u64
 }
 
 // The value stands in the piece from `at` on, and `left` bytes of it are to come.
@@ -70,9 +90,9 @@ fn plan_head(next: Phase, consumed: usize, forward: bool) -> Plan
 }
 
 // The length stands in the piece from `at` on, behind the part of it that came before.
-fn plan_length(op: Opening, piece: &[u8], at: usize, ctype: u64, have: u8, raw: u64) -> Plan
+fn reach_by_length(op: Opening, piece: &[u8], at: usize, ctype: u64, have: u8, raw: u64) -> Reached
     requires { ⌜ at ≤ length (now piece) ⌝ }
-    ensures { λ r. ⌜ r ≡ planLength op (now (piece .entry)) at ctype (partial have raw) ⌝ }
+    ensures { λ r. ⌜ Reaches op (now (piece .entry)) r (planLength op (now (piece .entry)) at ctype (partial have raw)) ⌝ }
 {
     let part = Partial {
         have: have,
@@ -80,34 +100,96 @@ fn plan_length(op: Opening, piece: &[u8], at: usize, ctype: u64, have: u8, raw: 
     };
     let taken = part.take(&piece[at..]);
     match taken {
-        Taken::Impossible => plan_head(Phase::InLength(ctype, part), 0, false),
+        Taken::Impossible => Reached::Stops(plan_head(Phase::InLength(ctype, part), 0, false)),
         Taken::More(more) => {
             let forward = op.forwards(ctype);
-            plan_head(Phase::InLength(ctype, more), piece.len(), forward)
+            Reached::Stops(plan_head(Phase::InLength(ctype, more), piece.len(), forward))
         }
-        Taken::Ends { used, value } => plan_value(op, piece, at + used, ctype, value, value),
+        Taken::Ends { used, value } => Reached::Value {
+            at: at + used,
+            ctype: ctype,
+            size: value,
+            left: value,
+        },
     }
 }
 
-fn plan_type(op: Opening, piece: &[u8], part: Partial) -> Plan
-    ensures { λ r. ⌜ r ≡ planType op (now (piece .entry)) part ⌝ }
+fn reach_by_type(op: Opening, piece: &[u8], part: Partial) -> Reached
+    ensures { λ r. ⌜ Reaches op (now (piece .entry)) r (planType op (now (piece .entry)) part) ⌝ }
 {
     let taken = part.take(piece);
     match taken {
-        Taken::Impossible => plan_head(Phase::InType(part), 0, false),
-        Taken::More(more) => plan_head(Phase::InType(more), piece.len(), false),
-        Taken::Ends { used, value } => plan_length(op, piece, used, value, 0, 0),
+        Taken::Impossible => Reached::Stops(plan_head(Phase::InType(part), 0, false)),
+        Taken::More(more) => Reached::Stops(plan_head(Phase::InType(more), piece.len(), false)),
+        Taken::Ends { used, value } => reach_by_length(op, piece, used, value, 0, 0),
     }
 }
 
+// From the start of a capsule. Most have a type of one byte and a length of one or two: a short way for these.
+fn reach_from_start(op: Opening, piece: &[u8]) -> Reached
+    ensures { λ r. ⌜ Reaches op (now (piece .entry)) r (planType op (now (piece .entry)) noBytes) ⌝ }
+{
+    if piece.len() >= 3 {
+        let ctype = wide(piece[0]);
+        let length = wide(piece[1]);
+        if ctype < 64 {
+            if length < 64 {
+                return Reached::Value {
+                    at: 2,
+                    ctype: ctype,
+                    size: length,
+                    left: length,
+                };
+            }
+            if length < 128 {
+                let longer = (length - 64) * 256 + wide(piece[2]);
+                return Reached::Value {
+                    at: 3,
+                    ctype: ctype,
+                    size: longer,
+                    left: longer,
+                };
+            }
+        }
+    }
+    reach_by_type(op, piece, Partial::EMPTY)
+}
+
+fn reach(op: Opening, piece: &[u8], phase: Phase) -> Reached
+    requires { ⌜ isMakeablePhase phase ≡ true ⌝ }
+    ensures { λ r. ⌜ Reaches op (now (piece .entry)) r (planOf op (now (piece .entry)) phase) ⌝ }
+{
+    match phase {
+        Phase::InType(part) => {
+            if part.have == 0 {
+                return reach_from_start(op, piece);
+            }
+            reach_by_type(op, piece, part)
+        }
+        Phase::InLength(ctype, part) => reach_by_length(op, piece, 0, ctype, part.have, part.raw),
+        Phase::InValue(ctype, size, left) => Reached::Value {
+            at: 0,
+            ctype: ctype,
+            size: size,
+            left: left,
+        },
+    }
+}
+
+// The value is planned in one place, so that the plan stays in registers.
 pub(crate) fn plan_of(op: Opening, piece: &[u8], phase: Phase) -> Plan
     requires { ⌜ isMakeablePhase phase ≡ true ⌝ }
     ensures { λ r. ⌜ r ≡ planOf op (now (piece .entry)) phase ⌝ }
 {
-    match phase {
-        Phase::InType(part) => plan_type(op, piece, part),
-        Phase::InLength(ctype, part) => plan_length(op, piece, 0, ctype, part.have, part.raw),
-        Phase::InValue(ctype, size, left) => plan_value(op, piece, 0, ctype, size, left),
+    let reached = reach(op, piece, phase);
+    match reached {
+        Reached::Stops(plan) => plan,
+        Reached::Value {
+            at,
+            ctype,
+            size,
+            left,
+        } => plan_value(op, piece, at, ctype, size, left),
     }
 }
 

@@ -5,9 +5,10 @@ use lib.ListN.{length, drop, length-drop}
 use Rattle.wire.specs.Partial.{partial, takeVarint}
 use Rattle.capsule.specs.Reader.{planHead}
 use Rattle.capsule.proofs.Planning.{ends-within, rest-of, length-impossible, length-more, length-ends}
+use Rattle.capsule.proofs.Reaching.{stops, values}
 use borrow.Author.Needs.{needs}
-use Rattle.capsule.proofs.plan.plan_length.Statement.{statement}
-use Rattle.capsule.proofs.plan.plan_length.Tie as tie
+use Rattle.capsule.proofs.plan.reach_by_length.Statement.{statement}
+use Rattle.capsule.proofs.plan.reach_by_length.Tie as tie
 
 -- what is taken of the rest of the piece, and where a length ends in it
 taken : (c : tie.After-take) → c .take .result ≡ takeVarint (partial (c .before .before .before .args .have) (c .before .before .before .args .raw)) (drop (c .before .before .before .args .at) (c .before .before .before .args .piece .now))
@@ -50,23 +51,20 @@ plan-head-requires-2 c κs = search needs
 enum-known-taken-2 : tie.Need-enum-known-taken-2
 enum-known-taken-2 c = search needs
 
-add-plan-value : tie.Need-add-plan-value
-add-plan-value c = omega (arith, ends c)
-
-plan-value-requires : tie.Need-plan-value-requires
-plan-value-requires c κs = (ends c, omega arith)
+add-t23 : tie.Need-add-t23
+add-t23 c = omega (arith, ends c)
 
 returns : tie.Need-returns
-returns c = c .plan-head .ensures ∙ sym (length-impossible _ _ _ _ _ (sym (taken (c .before .before .before)) ∙ c .before .enum-told .given .1))
+returns c = stops _ _ _ _ (c .plan-head .ensures ∙ sym (length-impossible _ _ _ _ _ (sym (taken (c .before .before .before)) ∙ c .before .enum-told .given .1)))
 
 returns-2 : tie.Need-returns-2
-returns-2 c = c .plan-head2 .ensures ∙ ap (planHead _ _) (c .before .forwards .ensures) ∙ sym (length-more _ _ _ _ _ _ (sym (taken (c .before .before .before .before .before)) ∙ c .before .before .before .taken .given .1))
+returns-2 c = stops _ _ _ _ (c .plan-head2 .ensures ∙ ap (planHead _ _) (c .before .forwards .ensures) ∙ sym (length-more _ _ _ _ _ _ (sym (taken (c .before .before .before .before .before)) ∙ c .before .before .before .taken .given .1)))
 
 returns-3 : tie.Need-returns-3
-returns-3 c = c .plan-value .ensures ∙ sym (length-ends _ _ _ _ _ _ _ (sym (taken (c .before .before .before .before)) ∙ c .before .before .taken2 .given .1))
+returns-3 c = values _ _ _ _ _ _ _ (ends c) (omega arith) (sym (length-ends _ _ _ _ _ _ _ (sym (taken (c .before .before .before)) ∙ c .before .taken2 .given .1)))
 
-pub plan-length-spec : {M : Type 1} → statement M
-plan-length-spec =
+pub reach-by-length-spec : {M : Type 1} → statement M
+reach-by-length-spec =
     tie.close
     (tie.spec
     sub-take
@@ -79,8 +77,7 @@ plan-length-spec =
     forwards-requires
     plan-head-requires-2
     enum-known-taken-2
-    add-plan-value
-    plan-value-requires
+    add-t23
     returns
     returns-2
     returns-3)

@@ -1,0 +1,93 @@
+-- What a piece comes to before the value, and the short way through a header. Assumes nothing.
+use mathlib.Core.Path.{_≡_, refl, sym, ap, _∙_}
+use Prim.Native.Nat.{ℕ, _+_, _-_, _*_, _%_, _^_, _≤_, _<_}
+use native.Mathlib.Omega.{arith}
+use mathlib.Core.Bool.{true}
+use mathlib.Core.List.{List, [], _∷_}
+use lib.ListN.{length, getD, take, drop, length-drop}
+use Rattle.wire.specs.declared.partial.Partial.{Partial}
+use Rattle.wire.specs.declared.varint.Varint.the-variants.{Whole}
+use Rattle.wire.specs.declared.partial.Taken.the-variants.{Ends}
+use Rattle.wire.specs.Bytes.{num, numFrom}
+use Rattle.wire.specs.Varint.{readVarint}
+use Rattle.wire.specs.Partial.{partialOf, isPartial, takeVarint}
+use Rattle.wire.proofs.Reading.{front-one, front-whole}
+use Rattle.wire.proofs.Parts.{begins-whole, empty-is, starts-zero}
+use Rattle.capsule.specs.declared.opening.Opening.{Opening}
+use Rattle.capsule.specs.declared.plan.Plan.{Plan}
+use Rattle.capsule.specs.declared.plan.Reached.{Reached}
+use Rattle.capsule.specs.declared.plan.Reached.the-variants.{Stops, Value}
+use Rattle.capsule.specs.declared.reader.Phase.{Phase}
+use Rattle.capsule.specs.declared.reader.Phase.the-variants.{InType}
+use Rattle.capsule.specs.Reader.{noBytes, isMakeablePhase, planValue, planType, planOf}
+use Rattle.capsule.specs.Reaching.{planBy, Within, Reaches}
+use Rattle.capsule.proofs.Planning.{length-ends, type-ends}
+
+module _ (op : Opening) (p : List ℕ) where
+  pub stops : (plan plan′ : Plan) → plan ≡ plan′ → Reaches op p (Stops plan) plan′
+  unfolding planBy Within
+  stops plan plan′ e = record { plans = e; within = tt }
+
+  pub values : (at t n left : ℕ) (plan : Plan) → at ≤ length p → left ≤ n → planValue op p at t n left ≡ plan → Reaches op p (Value at t n left) plan
+  unfolding planBy Within
+  values at t n left plan a l e = record { plans = e; within = (a, l) }
+
+  pub stopped : (r : Reached) (plan plan′ : Plan) → Reaches op p r plan′ → r ≡ Stops plan → plan ≡ plan′
+  unfolding planBy
+  stopped r plan plan′ h e = rw e at (h .plans)
+
+  pub valued : (r : Reached) (at t n left : ℕ) (plan : Plan) → Reaches op p r plan → r ≡ Value at t n left → planValue op p at t n left ≡ plan
+  unfolding planBy
+  valued r at t n left plan h e = rw e at (h .plans)
+
+  pub value-within : (r : Reached) (at t n left : ℕ) (plan : Plan) → Reaches op p r plan → r ≡ Value at t n left → (at ≤ length p) × (left ≤ n)
+  unfolding Within
+  value-within r at t n left plan h e = rw e at (h .within)
+
+-- ---- the short way
+
+begins : (s : List ℕ) (v k : ℕ) → readVarint s ≡ Whole v k → takeVarint noBytes s ≡ Ends k v
+begins s v k e = sym (begins-whole s (readVarint s) refl v k e ∙ ap (λ (q : Partial). takeVarint q s) empty-is)
+
+-- a type of one byte, and a length that is whole
+header : (op : Opening) (p : List ℕ) (n k : ℕ) → 0 < length p → getD p 0 0 < 64 → readVarint (drop 1 p) ≡ Whole n k
+    → planType op p noBytes ≡ planValue op p (1 + k) (getD p 0 0) n n
+header op p n k l h e =
+    type-ends op p noBytes 1 (getD p 0 0) (begins p (getD p 0 0) 1 (front-one p l h)) ∙ length-ends op p 1 (getD p 0 0) noBytes k n (begins (drop 1 p) n k e)
+
+second : (p : List ℕ) → getD (drop 1 p) 0 0 ≡ getD p 1 0
+second [] = refl
+second (a ∷ p) = refl
+
+-- the number of the second and the third byte
+two-bytes : (p : List ℕ) → 2 < length p → num (take 2 (drop 1 p)) ≡ getD p 1 0 * 256 + getD p 2 0
+unfolding num numFrom
+two-bytes [] h = absurd (let z : ⊥ = omega arith in z)
+two-bytes (a ∷ []) h = absurd (let z : ⊥ = omega arith in z)
+two-bytes (a ∷ b ∷ []) h = absurd (let z : ⊥ = omega arith in z)
+two-bytes (a ∷ b ∷ c ∷ p) h = omega arith
+
+module _ (op : Opening) (p : List ℕ) (l : 2 < length p) (t b : ℕ) (isT : t ≡ getD p 0 0) (isB : b ≡ getD p 1 0) (h : t < 64) where
+  pub short-one : b < 64 → Reaches op p (Value 2 t b b) (planType op p noBytes)
+  short-one k =
+      values op p 2 t b b (planType op p noBytes) (omega arith) (omega arith)
+      (sym (header op p b 1 (omega arith) (omega arith) (front-one (drop 1 p) (omega (arith, length-drop 1 p)) (omega (arith, second p)) ∙ ap (λ (n : ℕ). Whole n 1) (second p ∙ sym isB))
+      ∙ ap (λ (n : ℕ). planValue op p 2 n b b) (sym isT)))
+
+  pub short-two : (d : ℕ) → d ≡ getD p 2 0 → 64 ≤ b → b < 128 → d < 256
+      → Reaches op p (Value 3 t ((b - 64) * 256 + d) ((b - 64) * 256 + d)) (planType op p noBytes)
+  short-two d isD m k c =
+      let n = (b - 64) * 256 + d in
+      let v : num (take 2 (drop 1 p)) % 16384 ≡ (b - 64) * 256 + d = omega (arith, two-bytes p l) in
+      values op p 3 t n n (planType op p noBytes) (omega arith) (omega arith)
+      (sym (header op p n 2 (omega arith) (omega arith) (front-whole (drop 1 p) 1 (omega (arith, length-drop 1 p)) (omega (arith, second p)) (omega (arith, length-drop 1 p)) ∙ ap (λ (m : ℕ). Whole m 2) v)
+      ∙ ap (λ (m : ℕ). planValue op p 3 m n n) (sym isT)))
+
+-- before the first byte of a type
+pub from-start : (op : Opening) (p : List ℕ) (r : Reached) (phase : Phase) (part : Partial) → phase ≡ InType part → isMakeablePhase phase ≡ true → part .have ≡ 0
+    → Reaches op p r (planType op p noBytes) → Reaches op p r (planOf op p phase)
+unfolding planOf isMakeablePhase isPartial
+from-start op p r phase part e m h d =
+    let z : part .raw ≡ 0 = starts-zero (part .raw) (rw h at (rw e at m)) in
+    let isPart : noBytes ≡ part = λ i. record { have = sym h i; raw = sym z i } in
+    rw (e, ← isPart) d
