@@ -1,46 +1,13 @@
 // Runs the starred bench cases on streams through the reader.
-use capsule::opening::Report;
 use capsule::opening::Role;
-use capsule::reader::CloseAnswer;
-use capsule::reader::Ended;
 use capsule::reader::Fed;
-use capsule::reader::FeedAnswer;
 use capsule::reader::Opened;
 use capsule::reader::Reader;
-use show::first;
-use show::number;
 use show::word;
-
-fn report(r: Report, gathering: &[u8]) {
-    match r {
-        Report::Delivered(n) => {
-            word(b"delivered ");
-            number(n);
-            word(b": ");
-            first(gathering, n as usize);
-            word(b"\n");
-        }
-        Report::Dropped(n) => {
-            word(b"dropped ");
-            number(n);
-            word(b"\n");
-        }
-        Report::Skipped(t, n) => {
-            word(b"skipped ");
-            number(t);
-            word(b" ");
-            number(n);
-            word(b"\n");
-        }
-        Report::Passed(t, n) => {
-            word(b"passed ");
-            number(t);
-            word(b" ");
-            number(n);
-            word(b"\n");
-        }
-    }
-}
+use show_reader::consumed;
+use show_reader::ending;
+use show_reader::feeding;
+use show_reader::refused;
 
 // One feeding, shown.
 fn feed(reader: Reader, piece: &[u8]) -> Fed {
@@ -48,60 +15,15 @@ fn feed(reader: Reader, piece: &[u8]) -> Fed {
     let mut output = [0u8; 64];
     let fed = reader.feed(piece, &mut gathering, &mut output);
     let answer = fed.answer;
-    match answer {
-        FeedAnswer::Refused(why) => {
-            word(b"refused ");
-            number(why.0 as u64);
-            word(b"\n");
-        }
-        FeedAnswer::Took {
-            consumed: _,
-            written,
-            ended,
-        } => {
-            if written > 0 {
-                word(b"writes: ");
-                first(&output, written);
-                word(b"\n");
-            }
-            match ended {
-                Ended::Nothing => {}
-                Ended::Capsule(r) => {
-                    report(r, &gathering);
-                }
-            }
-        }
-    }
+    feeding(answer, &gathering, &output, b"\n");
     fed
-}
-
-fn consumed(answer: FeedAnswer) -> usize {
-    match answer {
-        FeedAnswer::Refused(_) => 0,
-        FeedAnswer::Took {
-            consumed: n,
-            written: _,
-            ended: _,
-        } => n,
-    }
 }
 
 fn close(reader: Reader) {
     let closed = reader.close();
     let answer = closed.answer;
-    match answer {
-        CloseAnswer::Refused(why) => {
-            word(b"refused ");
-            number(why.0 as u64);
-            word(b"\n");
-        }
-        CloseAnswer::Clean => {
-            word(b"clean\n");
-        }
-        CloseAnswer::Truncated => {
-            word(b"truncated\n");
-        }
-    }
+    word(b"\n");
+    ending(answer);
 }
 
 fn read(reader: Reader, stream: &[u8]) {
@@ -126,18 +48,17 @@ fn read(reader: Reader, stream: &[u8]) {
 fn case(name: &[u8], role: Role, limit: u64, draft: bool, stream: &[u8]) {
     word(b"-- ");
     word(name);
-    word(b"\n");
     let opened = Reader::open(role, limit, draft);
     match opened {
         Opened::Refused(why) => {
-            word(b"refused ");
-            number(why.0 as u64);
             word(b"\n");
+            refused(why);
         }
         Opened::Ready(reader) => {
             read(reader, stream);
         }
     }
+    word(b"\n");
 }
 
 fn main() {

@@ -1,0 +1,103 @@
+// What a reader answers, in words on standard output, for programs that are held to what they print.
+ghost use mathlib.Core.Path.{_≡_};
+ghost use Rattle.show_reader.specs.Consumed.{consumedIn};
+use capsule::opening::Report;
+use capsule::reader::CloseAnswer;
+use capsule::reader::Ended;
+use capsule::reader::FeedAnswer;
+use refusals::Refusal;
+use show::first;
+use show::number;
+use show::word;
+
+pub fn refused(why: Refusal) {
+    word(b"refused ");
+    number(why.0 as u64);
+}
+
+// A capsule of an unknown type: what became of it, its type and its length.
+fn unknown(became: &[u8], ctype: u64, length: u64) {
+    word(became);
+    number(ctype);
+    word(b" ");
+    number(length);
+}
+
+// A report. A delivered payload stands at the front of the gathering buffer.
+pub fn report(r: Report, gathering: &[u8]) {
+    match r {
+        Report::Delivered(n) => {
+            word(b"delivered ");
+            number(n);
+            word(b" (");
+            first(gathering, n as usize);
+            word(b")");
+        }
+        Report::Dropped(n) => {
+            word(b"dropped ");
+            number(n);
+        }
+        Report::Skipped(t, n) => {
+            unknown(b"skipped ", t, n);
+        }
+        Report::Passed(t, n) => {
+            unknown(b"passed ", t, n);
+        }
+    }
+}
+
+// What a feeding says, each answer behind a word: a refusal, what it wrote, and what ended.
+pub fn feeding(answer: FeedAnswer, gathering: &[u8], output: &[u8], before: &[u8]) {
+    match answer {
+        FeedAnswer::Refused(why) => {
+            word(before);
+            refused(why);
+        }
+        FeedAnswer::Took {
+            consumed: _,
+            written,
+            ended,
+        } => {
+            if written > 0 {
+                word(before);
+                word(b"writes ");
+                first(output, written);
+            }
+            match ended {
+                Ended::Nothing => {}
+                Ended::Capsule(r) => {
+                    word(before);
+                    report(r, gathering);
+                }
+            }
+        }
+    }
+}
+
+pub fn ending(answer: CloseAnswer) {
+    match answer {
+        CloseAnswer::Refused(why) => {
+            refused(why);
+        }
+        CloseAnswer::Clean => {
+            word(b"clean");
+        }
+        CloseAnswer::Truncated => {
+            word(b"truncated");
+        }
+    }
+}
+
+// How many bytes a feeding consumed: a refused one none.
+pub fn consumed(answer: FeedAnswer) -> usize
+    ensures { λ r. ⌜ r ≡ consumedIn answer ⌝ }
+{
+    match answer {
+        FeedAnswer::Refused(_) => 0,
+        FeedAnswer::Took {
+            consumed: n,
+            written: _,
+            ended: _,
+        } => n,
+    }
+}
