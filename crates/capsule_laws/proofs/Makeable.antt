@@ -34,7 +34,7 @@ use Rattle.capsule.specs.Calls.{Lent, lent, Call, feed, close, Reply, refused, 
 use Rattle.capsule.specs.Book.{Taken, append, Book, newBook, bookVerdict, bookFeed, bookClose, bookCall}
 use Rattle.capsule.specs.State.{phaseAt, phaseOf, readerOf, ofBook}
 use Rattle.capsule.specs.Reader.{opening, fresh, isOpening, openOf, isMakeablePhase, isMakeable, verdictOf, planOf, fedBy, takeOf, feedBy, feedOf, readerCall}
-use Rattle.capsule_laws.specs.Claims.{StandsAt, AllBytes, NoneIs, NeverUnmakeable, Makes, MakeableExactly, RefusedUnchanged, Progress}
+use Rattle.capsule_laws.specs.Claims.{StandsAt, AllBytes, NoneIs, NeverUnmakeable, Makes, MakeableExactly, StaysMakeable, RefusedUnchanged, Progress}
 use Rattle.capsule_laws.proofs.Grammar.{Sees, seesType, seesLength, seesValue, parts-part, parts-nil, tail-sees}
 use Rattle.capsule.proofs.Planning.{zero-one}
 use Rattle.capsule.proofs.Verdicts.{endpoint-lent, output-lent, accepted-makeable}
@@ -325,6 +325,15 @@ pub never-unmakeable : NeverUnmakeable
 never-unmakeable op cs = all-fine (newBook op) cs
 
 -- ---- of every state
+
+pub stays-makeable : StaysMakeable
+unfolding readerCall
+stays-makeable r p b h m =
+    let w = written r m in
+    let k : Book = record { opening = r .opening; stream = w .stream; mark = r .finished } in
+    let isR : ofBook k ≡ r = unfold ofBook in w .is in
+    let s = state-feed k (record { accepted = w .accepted; bytes = w .bytes }) p b h in
+    subst (λ (x : Reader). isMakeable x ≡ true) (sym (ap (λ (x : Reader). feedOf x p b .reader) (sym isR) ∙ s .0)) (made-book (bookCall k (feed p b) .0) (s .1))
 
 pub refused-unchanged : RefusedUnchanged
 unfolding feedOf

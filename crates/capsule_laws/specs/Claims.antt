@@ -192,6 +192,10 @@ pub record Makes (r : Reader) : Type 0 where
 abbrev pub MakeableExactly : Type 0
 MakeableExactly = (r : Reader) → (isMakeable r ≡ true) ↔ Makes r
 
+-- a feeding leaves no state that cannot be made (proofs/Makeable.antt)
+abbrev pub StaysMakeable : Type 0
+StaysMakeable = (r : Reader) (p : List ℕ) (b : Lent) → Bytes p → isMakeable r ≡ true → isMakeable (feedOf r p b .reader) ≡ true
+
 -- a refused feeding hands back the state and leaves both buffers (proofs/Feeding.antt)
 abbrev pub RefusedUnchanged : Type 0
 RefusedUnchanged =

@@ -1,8 +1,8 @@
 -- What was read, listed feeding by feeding. Assumes nothing.
 use mathlib.Core.Path.{_≡_, refl, sym, ap, _∙_}
-use Prim.Native.Nat.{ℕ, _+_, _-_, _≤_}
+use Prim.Native.Nat.{ℕ, _+_, _-_, _≤_, _<_}
 use native.Mathlib.Omega.{arith}
-use mathlib.Core.Bool.{true, false}
+use mathlib.Core.Bool.{Bool, true, false}
 use mathlib.Core.List.{List, [], _++_}
 use lib.ListN.{length, take, drop, length-append, length-drop}
 use lib.Seq.{sets, length-sets, length-take-le}
@@ -11,17 +11,22 @@ use Rattle.capsule.specs.declared.reader.Reader.{Reader}
 use Rattle.capsule.specs.declared.reader.Ended.{Ended}
 use Rattle.capsule.specs.declared.reader.FeedAnswer.{FeedAnswer}
 use Rattle.capsule.specs.declared.reader.FeedAnswer.the-variants as fedAs
-use Rattle.capsule.specs.declared.reader.CloseAnswer.the-variants as closedAs
 use Rattle.capsule.specs.declared.reader.Verdict.{Verdict}
 use Rattle.capsule.specs.declared.reader.Verdict.the-variants.{Accepted, Refused}
-use Rattle.capsule.specs.Calls.{Lent}
-use Rattle.capsule.specs.Reader.{verdictOf, planOf, Feeding, feeding, fedBy, takeOf, feedOf}
+use Rattle.wire.specs.Bytes.{Bytes}
+use Rattle.wire.specs.Partial.{isPartial, starts}
+use Rattle.wire.proofs.Numbers.{bytes-take, bytes-drop}
+use Rattle.capsule.specs.Calls.{Lent, lentVerdict}
+use Rattle.capsule.specs.declared.opening.Role.the-variants.{Endpoint}
+use Rattle.capsule.specs.declared.reader.Opened.the-variants as opened
+use Rattle.capsule.specs.Reader.{opening, fresh, isOpening, openOf, isMakeablePhase, isMakeable, verdictOf, planOf, Feeding, feeding, fedBy, takeOf, feedOf}
 use Rattle.capsule.proofs.Planning.{zero-one, plan-fits}
-use Rattle.capsule.proofs.Verdicts.{accepts, feed-refused, feed-taken}
-use Rattle.lines.specs.Lines.{endLine}
+use Rattle.capsule.proofs.Verdicts.{accepts, accepted-makeable, unmakeable, after-close, by-lengths, endpoint-lent, feed-refused, feed-taken}
+use Rattle.capsule_laws.proofs.Makeable.{stays-makeable, progress}
+use Rattle.lines.specs.Lines.{longest}
 use Rattle.lines.proofs.Placing.{sets-then}
 use Rattle.lister.specs.declared.Listing.{Listing}
-use Rattle.lister.specs.Listing.{listingOf, lineIn, Noted, Lists, none, took, refused, Within, Listed}
+use Rattle.lister.specs.Listing.{listingOf, lineIn, Noted, Lists, none, took, Ready, Read, Within, Listed}
 
 -- a feeding consumes no more than its piece
 module _ (r : Reader) (p : List ℕ) (b : Lent) (consumed written : ℕ) (e : Ended) where
@@ -37,27 +42,99 @@ module _ (r : Reader) (p : List ℕ) (b : Lent) (consumed written : ℕ) (e : En
           let isConsumed : plan .consumed ≡ consumed = cc in
           rw (← isConsumed) (plan-fits (r .opening) p (r .phase) (accepts r (length p) (length (b .gathering)) (length (b .output)) q .phase) .within)
 
--- feedings that start where a listing stands, so far
+-- ---- a reader that refuses no piece
+
+not-accepted {ℓ} : {X : Type ℓ} {v : Verdict} {why : Refusal} → v ≡ Accepted → Refused why ≡ v → X
+not-accepted p q = zero-one (cc)
+
+-- what was accepted stands by the lengths
+accepted-lent : (r : Reader) (piece gathering output : ℕ) → verdictOf r piece gathering output ≡ Accepted → lentVerdict (r .opening) piece gathering output ≡ Accepted
+accepted-lent r piece gathering output e = go (isMakeable r) refl (r .finished) refl
+  where
+    go : (m : Bool) → isMakeable r ≡ m → (f : Bool) → r .finished ≡ f → lentVerdict (r .opening) piece gathering output ≡ Accepted
+    go false m f g = not-accepted e (unmakeable r piece gathering output m)
+    go true m true f = not-accepted e (after-close r piece gathering output m f)
+    go true m false f = by-lengths r piece gathering output m f (lentVerdict (r .opening) piece gathering output) refl ∙ e
+
+module _ (r : Reader) (p : List ℕ) (b : Lent) (h : Ready r (length (b .gathering)) (length (b .output))) where
+  taken : takeOf r p b ≡ feedOf r p b
+  taken = feed-taken r p b (h .accepts (length p))
+
+  pub never-refused {ℓ} : {X : Type ℓ} {why : Refusal} → feedOf r p b .answer ≡ fedAs.Refused why → X
+  unfolding takeOf fedBy
+  never-refused e = zero-one (cc (ap (λ (f : Feeding). f .answer) taken ∙ e))
+
+  pub ready-again : Bytes p → Ready (feedOf r p b .reader) (length (b .gathering)) (length (b .output))
+  unfolding takeOf fedBy
+  ready-again k =
+      let s = feedOf r p b .reader in
+      let isS : takeOf r p b .reader ≡ s = ap (λ (f : Feeding). f .reader) taken in
+      let open-still : s .finished ≡ false = sym (ap (λ (x : Reader). x .finished) isS) in
+      let same-opening : r .opening ≡ s .opening = ap (λ (x : Reader). x .opening) isS in
+      let made = stays-makeable r p b k (accepted-makeable r 0 (length (b .gathering)) (length (b .output)) (h .accepts 0)) in
+      record {
+        accepts = λ piece.
+            sym (by-lengths s piece (length (b .gathering)) (length (b .output)) made open-still Accepted
+            (sym (rw (← same-opening) (accepted-lent r piece (length (b .gathering)) (length (b .output)) (h .accepts piece)))));
+      }
+
+-- the reader that was opened
+pub opened-ready : (r : Reader) (gathering output : ℕ) → 1200 ≤ gathering → openOf Endpoint 1200 false ≡ opened.Ready r → Ready r gathering output
+unfolding openOf isOpening
+opened-ready r gathering output h e =
+    let op = opening Endpoint 1200 false in
+    let isR : fresh (opening Endpoint 1200 false) ≡ r = cc in
+    rw (← isR) (record {
+      accepts = λ piece.
+          sym (by-lengths (fresh op) piece gathering output (unfold isMakeable isMakeablePhase isPartial starts in refl) refl Accepted (endpoint-lent op piece gathering output h refl));
+    })
+
+-- ---- the state between two steps
+
+pub moved : (l : Listing) {a b c d a′ b′ c′ d′ : ℕ} → Within l a b c d → a′ ≡ a → b′ ≡ b → c′ ≡ c → d′ ≡ d → Within l a′ b′ c′ d′
+moved l w ea eb ec ed = rw (ea, eb, ec, ed) w
+
+pub read-ready : (l : Listing) (r : Reader) {i a b c d : ℕ} → Read l r i d → i ≤ a → Ready r b c → Within l a b c d
+read-ready l r w h k =
+    let e = w .have in
+    record { used = w .used; have = omega arith; held = w .held; ready = rw (w .same) k }
+
+-- ---- what was read, so far
+
+-- feedings that start where a listing stands
 pub record Standing (have : ℕ) (r₀ : Reader) (from held₀ : ℕ) (input : List ℕ) (b₀ : Lent) (block₀ : List ℕ) (r : Reader) (b : Lent) (used held : ℕ) (block : List ℕ) : Type 0 where
   pub text : List ℕ
-  pub lists : Lists input have r₀ b₀ from r b used true text
+  pub lists : Lists input have r₀ b₀ from r b used text
   pub lines : block ≡ sets block₀ held₀ text
   pub waits : held ≡ held₀ + length text
   pub left : used ≤ have
   pub read : have ≤ length input
   pub room : held ≤ length block₀
   pub same : length block ≡ length block₀
+  pub gathering : length (b .gathering) ≡ length (b₀ .gathering)
+  pub output : length (b .output) ≡ length (b₀ .output)
+  pub ready : Ready r (length (b .gathering)) (length (b .output))
 
-pub stands-first : (l : Listing) (input : List ℕ) (b : Lent) (block : List ℕ) → Within l (length input) (length block)
+pub stands-first : (l : Listing) (input : List ℕ) (b : Lent) (block : List ℕ) → Within l (length input) (length (b .gathering)) (length (b .output)) (length block)
     → Standing (l .have) (l .reader) (l .used) (l .held) input b block (l .reader) b (l .used) (l .held) block
 stands-first l input b block w =
-    record { text = []; lists = none; lines = refl; waits = omega arith; left = w .used; read = w .have; room = w .held; same = refl }
+    record { text = []; lists = none; lines = refl; waits = omega arith; left = w .used; read = w .have; room = w .held; same = refl; gathering = refl; output = refl; ready = w .ready }
 
 module _ (l : Listing) {input : List ℕ} {b₀ : Lent} {block₀ : List ℕ} {r : Reader} {b : Lent} {used held : ℕ} {block : List ℕ}
     (s : Standing (l .have) (l .reader) (l .used) (l .held) input b₀ block₀ r b used held block) where
-  pub all-listed : (m : Listing) → m ≡ listingOf r (l .have) used held true → Listed l input b₀ block₀ m b block
-  all-listed m e =
-      rw e (record { text = s .text; lists = s .lists; lines = s .lines; waits = s .waits; within = record { used = s .left; have = s .read; held = s .room } })
+  pub all-listed : (held + longest ≤ length block₀ → l .have ≤ used) → (m : Listing) → m ≡ listingOf r (l .have) used held true → Listed l input b₀ block₀ m b block
+  all-listed up m e =
+      let left = s .left in
+      let isReady = s .ready in
+      rw e (record {
+        text = s .text;
+        lists = s .lists;
+        lines = s .lines;
+        waits = s .waits;
+        goes-on = refl;
+        used-up = λ h. (let u = up h in omega arith);
+        within = record { used = left; have = s .read; held = s .room; ready = rw (← s .gathering, ← s .output) isReady };
+      })
 
   -- the lines so far, and one more
   behind : (line : List ℕ) (waits : ℕ) (after : List ℕ) → Noted line block held waits after
@@ -69,19 +146,37 @@ module _ (l : Listing) {input : List ℕ} {b₀ : Lent} {block₀ : List ℕ} {r
       )
 
   module _ {t : Reader} {a : FeedAnswer} {d : Lent} (fed : feeding t a d ≡ feedOf r (take (l .have - used) (drop used input)) b) where
+    abbrev piece : List ℕ
+    piece = take (l .have - used) (drop used input)
+
+    answered : feedOf r piece b .answer ≡ a
+    answered = ap (λ (x : Feeding). x .answer) (sym fed)
+
+    length-piece : length piece ≡ l .have - used
+    length-piece =
+        let g = s .read in
+        length-take-le (l .have - used) (drop used input) (omega (arith, length-drop used input))
+
+    pub unrefused {ℓ} : {X : Type ℓ} (why : Refusal) → a ≡ fedAs.Refused why → X
+    unrefused why isA = never-refused r piece b (s .ready) (answered ∙ isA)
+
     pub used-more : (consumed written : ℕ) (e : Ended) → a ≡ fedAs.Took consumed written e → used + consumed ≤ l .have
     used-more consumed written e isA =
-        let p = take (l .have - used) (drop used input) in
         let f = s .left in
-        let g = s .read in
-        let h : length p ≡ l .have - used = length-take-le (l .have - used) (drop used input) (omega (arith, length-drop used input)) in
-        omega (arith, took-within r p b consumed written e (ap (λ (x : Feeding). x .answer) (sym fed) ∙ isA))
+        omega (arith, length-piece, took-within r piece b consumed written e (answered ∙ isA))
 
-    pub stands-took : (consumed written : ℕ) (e : Ended) → a ≡ fedAs.Took consumed written e → (waits : ℕ) (after : List ℕ) → Noted (lineIn e) block held waits after
+    pub used-some : Bytes input → used < l .have → (consumed written : ℕ) (e : Ended) → a ≡ fedAs.Took consumed written e → 0 < consumed
+    used-some h m consumed written e isA =
+        progress r piece b consumed written e (bytes-take (l .have - used) (drop used input) (bytes-drop used input h)) (omega (arith, length-piece)) (answered ∙ isA)
+
+    pub stands-took : Bytes input → length (d .gathering) ≡ length (b .gathering) → length (d .output) ≡ length (b .output)
+        → (consumed written : ℕ) (e : Ended) → a ≡ fedAs.Took consumed written e → (waits : ℕ) (after : List ℕ) → Noted (lineIn e) block held waits after
         → Standing (l .have) (l .reader) (l .used) (l .held) input b₀ block₀ t d (used + consumed) waits after
-    stands-took consumed written e isA waits after n =
+    stands-took h lg lo consumed written e isA waits after n =
         let x = behind (lineIn e) waits after n in
         let y = s .same in
+        let isT : feedOf r piece b .reader ≡ t = ap (λ (f : Feeding). f .reader) (sym fed) in
+        let again = ready-again r piece b (s .ready) (bytes-take (l .have - used) (drop used input) (bytes-drop used input h)) in
         record {
           text = s .text ++ lineIn e;
           lists = took (s .lists) (rw isA at fed);
@@ -91,17 +186,7 @@ module _ (l : Listing) {input : List ℕ} {b₀ : Lent} {block₀ : List ℕ} {r
           read = s .read;
           room = omega (arith, n .within);
           same = ap length (x .0) ∙ length-sets block₀ (l .held) (s .text ++ lineIn e);
+          gathering = lg ∙ s .gathering;
+          output = lo ∙ s .output;
+          ready = rw (lg, lo, ← isT) again;
         }
-
-    pub refused-listed : (why : Refusal) → a ≡ fedAs.Refused why → (waits : ℕ) (after : List ℕ) → Noted (endLine (closedAs.Refused why)) block held waits after
-        → (m : Listing) → m ≡ listingOf t (l .have) used waits false → Listed l input b₀ block₀ m d after
-    refused-listed why isA waits after n m isM =
-        let x = behind (endLine (closedAs.Refused why)) waits after n in
-        let y = s .same in
-        rw isM (record {
-          text = s .text ++ endLine (closedAs.Refused why);
-          lists = refused (s .lists) (rw isA at fed);
-          lines = x .0;
-          waits = x .1;
-          within = record { used = s .left; have = s .read; held = omega (arith, n .within) };
-        })

@@ -1,21 +1,20 @@
 -- A listing of bytes that were read: contracts inside the crate.
 use mathlib.Core.Path.{_≡_}
 use Prim.Native.Nat.{ℕ, _+_, _-_, _^_, _≤_, _<_}
-use mathlib.Core.Bool.{Bool, true, false}
+use mathlib.Core.Bool.{Bool, true}
 use mathlib.Core.List.{List, [], _++_}
 use lib.ListN.{length, take, drop}
 use lib.Seq.{sets}
-use Rattle.refusals.specs.declared.Refusal.{Refusal}
 use Rattle.capsule.specs.declared.reader.Reader.{Reader}
 use Rattle.capsule.specs.declared.reader.Ended.{Ended}
 use Rattle.capsule.specs.declared.reader.Ended.the-variants.{Nothing, Capsule}
 use Rattle.capsule.specs.declared.reader.FeedAnswer.the-variants as fedAs
-use Rattle.capsule.specs.declared.reader.CloseAnswer.the-variants as closedAs
+use Rattle.capsule.specs.declared.reader.Verdict.the-variants.{Accepted}
 use Rattle.capsule.specs.Calls.{Lent}
-use Rattle.capsule.specs.Reader.{feeding, feedOf}
+use Rattle.capsule.specs.Reader.{verdictOf, feeding, feedOf}
 use Rattle.lines.specs.declared.Line.{Line}
 use Rattle.lines.specs.declared.Line.the-variants.{Written, NoRoom}
-use Rattle.lines.specs.Lines.{reportLine, endLine}
+use Rattle.lines.specs.Lines.{reportLine, longest}
 use Rattle.lister.specs.declared.Listing.{Listing}
 
 abbrev pub listingOf : Reader → ℕ → ℕ → ℕ → Bool → Listing
@@ -41,29 +40,40 @@ pub record Noted (line block : List ℕ) (held waits : ℕ) (after : List ℕ) :
   pub counted : waits ≡ held + length line
   pub within : waits ≤ length block
 
--- feedings, one after another, of what stands in the input from `from` up to `have`: what reader, what buffers and what place
--- they come to, whether none was refused, and the lines of what ended in them
-pub data Lists (input : List ℕ) (have : ℕ) (r₀ : Reader) (b₀ : Lent) (from : ℕ) : Reader → Lent → ℕ → Bool → List ℕ → Type 0 where
-  none : Lists input have r₀ b₀ from r₀ b₀ from true []
+-- feedings, one after another, none of them refused, of what stands in the input from `from` up to `have`: what reader, what buffers
+-- and what place they come to, and the lines of what ended in them
+pub data Lists (input : List ℕ) (have : ℕ) (r₀ : Reader) (b₀ : Lent) (from : ℕ) : Reader → Lent → ℕ → List ℕ → Type 0 where
+  none : Lists input have r₀ b₀ from r₀ b₀ from []
   took : {r s : Reader} {b d : Lent} {used consumed written : ℕ} {text : List ℕ} {e : Ended}
-      → Lists input have r₀ b₀ from r b used true text
+      → Lists input have r₀ b₀ from r b used text
       → feeding s (fedAs.Took consumed written e) d ≡ feedOf r (take (have - used) (drop used input)) b
-      → Lists input have r₀ b₀ from s d (used + consumed) true (text ++ lineIn e)
-  refused : {r s : Reader} {b d : Lent} {used : ℕ} {text : List ℕ} {why : Refusal}
-      → Lists input have r₀ b₀ from r b used true text
-      → feeding s (fedAs.Refused why) d ≡ feedOf r (take (have - used) (drop used input)) b
-      → Lists input have r₀ b₀ from s d used false (text ++ endLine (closedAs.Refused why))
+      → Lists input have r₀ b₀ from s d (used + consumed) (text ++ lineIn e)
 
--- the state is within its blocks
-pub record Within (l : Listing) (input block : ℕ) : Type 0 where
+-- a reader that refuses no piece with buffers of these lengths
+pub record Ready (r : Reader) (gathering output : ℕ) : Type 0 where
+  pub accepts : (piece : ℕ) → verdictOf r piece gathering output ≡ Accepted
+
+-- the state has this reader, and is within its blocks
+pub record Read (l : Listing) (r : Reader) (input block : ℕ) : Type 0 where
+  pub same : l .reader ≡ r
   pub used : l .used ≤ l .have
   pub have : l .have ≤ input
   pub held : l .held ≤ block
 
--- what was read is listed: the lines stand in the block behind those that waited, and no other byte of it changes
+-- the state is within its blocks, and its reader is ready
+pub record Within (l : Listing) (input gathering output block : ℕ) : Type 0 where
+  pub used : l .used ≤ l .have
+  pub have : l .have ≤ input
+  pub held : l .held ≤ block
+  pub ready : Ready (l .reader) gathering output
+
+-- what was read is listed: the lines stand in the block behind those that waited, and no other byte of it changes; all of it is used up,
+-- unless a line might not fit any more
 pub record Listed (l : Listing) (input : List ℕ) (b : Lent) (block : List ℕ) (r : Listing) (d : Lent) (after : List ℕ) : Type 0 where
   pub text : List ℕ
-  pub lists : Lists input (l .have) (l .reader) b (l .used) (r .reader) d (r .used) (r .going) text
+  pub lists : Lists input (l .have) (l .reader) b (l .used) (r .reader) d (r .used) text
   pub lines : after ≡ sets block (l .held) text
   pub waits : r .held ≡ l .held + length text
-  pub within : Within r (length input) (length block)
+  pub goes-on : r .going ≡ true
+  pub used-up : r .held + longest ≤ length block → r .used ≡ l .have
+  pub within : Within r (length input) (length (b .gathering)) (length (b .output)) (length block)

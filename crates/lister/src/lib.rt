@@ -1,11 +1,11 @@
 // The listing program (document 01, "Bench cases"): the capsules of a stream, one line each.
 ghost use mathlib.Core.Path.{_≡_};
-ghost use mathlib.Core.Bool.{true};
+ghost use mathlib.Core.Bool.{true, false};
 ghost use Prim.Native.Nat.{_+_, _≤_, _<_};
 ghost use lib.ListN.{length};
 ghost use Rattle.capsule.specs.Calls.{lent};
 ghost use Rattle.lines.specs.Lines.{endLine, longest};
-ghost use Rattle.lister.specs.Listing.{listingOf, Grows, grown, lineIn, Noted, Within, Listed};
+ghost use Rattle.lister.specs.Listing.{listingOf, Grows, grown, lineIn, Noted, Ready, Read, Within, Listed};
 use capsule::opening::Role;
 use capsule::reader::CloseAnswer;
 use capsule::reader::Ended;
@@ -82,13 +82,10 @@ fn note_end(end: CloseAnswer, block: &mut [u8], held: usize) -> usize
 }
 
 // Whether a feeding is due, and any line of it has room.
-fn is_due(turns: usize, used: usize, have: usize, held: usize, room: usize) -> bool
+fn is_due(used: usize, have: usize, held: usize, room: usize) -> bool
     requires { ⌜ held ≤ room ⌝ }
-    ensures { λ r. ⌜ (r ≡ true → (0 < turns) × (used < have) × (held + longest ≤ room)) ⌝ }
+    ensures { λ r. ⌜ (r ≡ true → (used < have) × (held + longest ≤ room)) × (r ≡ false → held + longest ≤ room → have ≤ used) ⌝ }
 {
-    if turns == 0 {
-        return false;
-    }
     if used >= have {
         return false;
     }
@@ -103,15 +100,14 @@ fn list_read(
     output: &mut [u8],
     block: &mut [u8],
 ) -> Listing
-    requires { ⌜ Within l (length (now input)) (length (now block)) ⌝ }
+    requires { ⌜ Within l (length (now input)) (length (now gathering)) (length (now output)) (length (now block)) ⌝ }
     ensures { λ r. ⌜ Listed l (now (input .entry)) (lent (now (gathering .entry)) (now (output .entry))) (now (block .entry)) r (lent (now (gathering .exit)) (now (output .exit))) (now (block .exit)) ⌝ }
 {
     let have = l.have;
     let mut reader = l.reader;
     let mut used = l.used;
     let mut held = l.held;
-    let mut turns = have;
-    while is_due(turns, used, have, held, block.len()) {
+    while is_due(used, have, held, block.len()) {
         let fed = reader.feed(&input[used..have], gathering, output);
         let answer = fed.answer;
         reader = fed.reader;
@@ -129,7 +125,6 @@ fn list_read(
                 held = note(ended, block, held);
             }
         }
-        turns -= 1;
     }
     Listing::new(reader, have, used, held, true)
 }
@@ -148,7 +143,7 @@ fn write_held(block: &[u8], held: usize) -> bool
 // One read, or the last line at the end of the input. Standard error gets a line where reading fails, and there is no last line.
 fn read_more(fd: i32, name: &[u8], l: Listing, input: &mut [u8], block: &mut [u8]) -> Listing
     requires { ⌜ l .held + longest ≤ length (now block) ⌝ }
-    ensures { λ r. ⌜ Within r (length (now (input .exit))) (length (now (block .exit))) ⌝ }
+    ensures { λ r. ⌜ Read r (l .reader) (length (now (input .exit))) (length (now (block .exit))) ⌝ }
 {
     let reader = l.reader;
     let held = l.held;
@@ -177,8 +172,8 @@ fn step(
     output: &mut [u8],
     block: &mut [u8],
 ) -> Listing
-    requires { ⌜ Within l (length (now input)) (length (now block)) ⌝ }
-    ensures { λ r. ⌜ Within r (length (now (input .exit))) (length (now (block .exit))) ⌝ }
+    requires { ⌜ Within l (length (now input)) (length (now gathering)) (length (now output)) (length (now block)) ⌝ }
+    ensures { λ r. ⌜ Within r (length (now (input .exit))) (length (now (gathering .exit))) (length (now (output .exit))) (length (now (block .exit))) ⌝ }
 {
     let held = l.held;
     if block.len() - held < LONGEST {
@@ -195,7 +190,7 @@ fn step(
 // The first line waits.
 fn start(reader: Reader, block: &mut [u8]) -> Listing
     requires { ⌜ longest ≤ length (now block) ⌝ }
-    ensures { λ r. ⌜ Within r 0 (length (now (block .exit))) ⌝ }
+    ensures { λ r. ⌜ Read r reader 0 (length (now (block .exit))) ⌝ }
 {
     let line = lines::write_limit(LIMIT, block, 0);
     Listing::new(reader, 0, 0, grow(0, line), true)
@@ -211,7 +206,7 @@ fn list_all(
     output: &mut [u8],
     block: &mut [u8],
 )
-    requires { ⌜ longest ≤ length (now block) ⌝ }
+    requires { ⌜ (longest ≤ length (now block)) × Ready reader (length (now gathering)) (length (now output)) ⌝ }
 {
     let mut l = start(reader, block);
     let mut turns = u64::MAX;

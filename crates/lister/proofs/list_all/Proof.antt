@@ -2,24 +2,24 @@ use native.Mathlib.Omega.{arith}
 use mathlib.Core.Path.{_≡_, refl, _∙_}
 use lib.ListN.{length}
 use Rattle.lister.specs.Listing.{Within}
+use Rattle.lister.proofs.Listings.{read-ready}
 use Rattle.lister.proofs.list_all.Statement.{statement}
 use Rattle.lister.proofs.list_all.Tie as tie
 
 abbrev Inv-loop : tie.InvT-loop
 Inv-loop fd name input₀ gathering₀ output₀ block₀ l₀ turns₀ input gathering output block l turns =
-    Within l (length input) (length block)
+    Within l (length input) (length gathering) (length output) (length block)
     × (length input ≡ length input₀) × (length gathering ≡ length gathering₀) × (length output ≡ length output₀) × (length block ≡ length block₀)
 
 abbrev μ-loop : tie.MeasureT-loop
 μ-loop fd name input₀ gathering₀ output₀ block₀ l₀ turns₀ input gathering output block l turns = turns
 
 start-requires : tie.Need-start-requires Inv-loop μ-loop
-start-requires c κs = c .before .before .before .before .before .before .pre
+start-requires c κs = c .before .before .before .before .before .before .pre .0
 
 loop-holds : tie.Need-loop-holds Inv-loop μ-loop
 loop-holds c =
-    let first = c .before .before .start .ensures in
-    (record { used = first .used; have = omega arith; held = first .held }, refl, refl, refl, refl)
+    (read-ready _ _ (c .before .before .start .ensures) (omega arith) (c .before .before .before .before .before .before .before .before .before .pre .1), refl, refl, refl, refl)
 
 step-requires : tie.Need-step-requires Inv-loop μ-loop
 step-requires c κs = c .before .before .before .before .before .before .loop .inv .0

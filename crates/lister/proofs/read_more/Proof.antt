@@ -1,4 +1,5 @@
 use native.Mathlib.Omega.{arith}
+use mathlib.Core.Path.{refl}
 use borrow.Author.Needs.{needs}
 use Rattle.lister.proofs.read_more.Statement.{statement}
 use Rattle.lister.proofs.read_more.Tie as tie
@@ -16,7 +17,7 @@ same-length : tie.Need-same-length
 same-length c = search needs
 
 returns : tie.Need-returns
-returns c = rw (c .new .ensures) (record { used = omega arith; have = omega arith; held = omega (arith, c .before .before .before .before .before .before .before .before .before .before .before .pre) })
+returns c = rw (c .new .ensures) (record { same = refl; used = omega arith; have = omega arith; held = omega (arith, c .before .before .before .before .before .before .before .before .before .before .before .pre) })
 
 close-requires : tie.Need-close-requires
 close-requires c κs = search needs
@@ -34,7 +35,7 @@ same-length-3 : tie.Need-same-length-3
 same-length-3 c = search needs
 
 returns-2 : tie.Need-returns-2
-returns-2 c = rw (c .new2 .ensures) (record { used = omega arith; have = omega arith; held = omega (arith, c .before .before .before .note-end .ensures, c .before .before .before .note-end .kept .1 .0) })
+returns-2 c = rw (c .new2 .ensures) (record { same = refl; used = omega arith; have = omega arith; held = omega (arith, c .before .before .before .note-end .ensures, c .before .before .before .note-end .kept .1 .0) })
 
 count-requires : tie.Need-count-requires
 count-requires c κs = search needs
@@ -46,7 +47,7 @@ same-length-4 : tie.Need-same-length-4
 same-length-4 c = search needs
 
 returns-3 : tie.Need-returns-3
-returns-3 c = rw (c .new3 .ensures) (record { used = omega arith; have = c .before .count .ensures .0 .0; held = omega (arith, c .before .before .before .before .before .before .before .before .before .before .before .before .before .pre) })
+returns-3 c = rw (c .new3 .ensures) (record { same = refl; used = omega arith; have = c .before .count .ensures .0 .0; held = omega (arith, c .before .before .before .before .before .before .before .before .before .before .before .before .before .pre) })
 
 pub read-more-spec : {M : Type 1} → statement M
 read-more-spec =

@@ -1,4 +1,5 @@
 use native.Mathlib.Omega.{arith}
+use mathlib.Core.Path.{refl}
 use Rattle.lister.proofs.Noting.{grows, noted}
 use borrow.Author.Needs.{needs}
 use Rattle.lister.proofs.start.Statement.{statement}
@@ -22,7 +23,7 @@ returns : tie.Need-returns
 returns c =
     let entry = c .before .before .before .before .before .before .before in
     let fits = noted _ (entry .args .block .now) 0 _ _ (c .before .before .before .before .write-limit .ensures .0) (c .before .before .before .before .write-limit .ensures .1) (omega arith) _ (c .before .grow .ensures) .within in
-    rw (c .new .ensures) (record { used = omega arith; have = omega arith; held = omega (arith, c .before .before .before .before .write-limit .kept .1 .0) })
+    rw (c .new .ensures) (record { same = refl; used = omega arith; have = omega arith; held = omega (arith, c .before .before .before .before .write-limit .kept .1 .0) })
 
 pub start-spec : {M : Type 1} → statement M
 start-spec =

@@ -1,4 +1,6 @@
 use native.Mathlib.Omega.{arith}
+use mathlib.Core.Path.{refl}
+use Rattle.lister.proofs.Listings.{moved, read-ready}
 use borrow.Author.Needs.{needs}
 use Rattle.lister.proofs.step.Statement.{statement}
 use Rattle.lister.proofs.step.Tie as tie
@@ -16,7 +18,9 @@ same-length : tie.Need-same-length
 same-length c = search needs
 
 returns : tie.Need-returns
-returns c = rw (c .new .ensures) (record { used = c .before .before .before .before .before .before .before .before .before .before .pre .used; have = c .before .before .before .before .before .before .before .before .before .before .pre .have; held = omega arith })
+returns c =
+    let was = c .before .before .before .before .before .before .before .before .before .before .pre in
+    rw (c .new .ensures) (record { used = was .used; have = was .have; held = omega arith; ready = was .ready })
 
 list-read-requires : tie.Need-list-read-requires
 list-read-requires c κs = search needs
@@ -34,7 +38,9 @@ same-length-5 : tie.Need-same-length-5
 same-length-5 c = search needs
 
 returns-2 : tie.Need-returns-2
-returns-2 c = search needs
+returns-2 c =
+    let read = c .before .before .before .before .before .before .list-read in
+    moved _ (read .ensures .within) refl (read .kept .1 .1 .0) (read .kept .1 .1 .1 .0) (read .kept .1 .1 .1 .1 .0)
 
 read-more-requires : tie.Need-read-more-requires
 read-more-requires c κs = search needs
@@ -46,7 +52,9 @@ same-length-7 : tie.Need-same-length-7
 same-length-7 c = search needs
 
 returns-3 : tie.Need-returns-3
-returns-3 c = search needs
+returns-3 c =
+    let was = c .before .before .before .before .before .before .before .before .before .before .before .before .before .before .before .pre in
+    read-ready _ _ (c .before .before .before .before .read-more .ensures) (omega arith) (was .ready)
 
 pub step-spec : {M : Type 1} → statement M
 step-spec =
