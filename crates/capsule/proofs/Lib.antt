@@ -2,3 +2,4 @@ pub mod Planning
 pub mod Moving
 pub mod Verdicts
 pub mod Reaching
+pub mod ShortWays

@@ -103,7 +103,7 @@ module _ (op : Opening) (p : List ℕ) (part : Partial) where
 -- ---- a plan keeps within the piece and the buffers
 
 -- only an intermediary forwards
-forwards-role : (op : Opening) (t : ℕ) → forwards op t ≡ true → op .role ≡ Intermediary
+pub forwards-role : (op : Opening) (t : ℕ) → forwards op t ≡ true → op .role ≡ Intermediary
 unfolding forwards forwardsBy
 forwards-role op t e = go (op .role) refl e
   where

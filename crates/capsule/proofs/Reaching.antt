@@ -2,7 +2,9 @@
 use mathlib.Core.Path.{_≡_, refl, sym, ap, _∙_}
 use Prim.Native.Nat.{ℕ, _+_, _-_, _*_, _%_, _^_, _≤_, _<_}
 use native.Mathlib.Omega.{arith}
-use mathlib.Core.Bool.{true}
+use mathlib.Core.Bool.{Bool, true, false}
+use lib.Dec.{leb, ltb}
+use borrow.Author.Tests.{le-leb, lt-leb, lt-ltb, le-ltb, leb-true, ltb-true, ltb-false}
 use mathlib.Core.List.{List, [], _∷_}
 use lib.ListN.{length, getD, take, drop, length-drop}
 use Rattle.wire.specs.declared.partial.Partial.{Partial}
@@ -16,11 +18,14 @@ use Rattle.wire.proofs.Parts.{begins-whole, empty-is, starts-zero}
 use Rattle.capsule.specs.declared.opening.Opening.{Opening}
 use Rattle.capsule.specs.declared.plan.Plan.{Plan}
 use Rattle.capsule.specs.declared.plan.Reached.{Reached}
+use Rattle.capsule.specs.declared.plan.Header.{Header}
+use Rattle.capsule.specs.declared.plan.Header.the-variants.{Long, Short}
 use Rattle.capsule.specs.declared.plan.Reached.the-variants.{Stops, Value}
 use Rattle.capsule.specs.declared.reader.Phase.{Phase}
 use Rattle.capsule.specs.declared.reader.Phase.the-variants.{InType}
 use Rattle.capsule.specs.Reader.{noBytes, isMakeablePhase, planValue, planType, planOf}
 use Rattle.capsule.specs.Reaching.{planBy, Within, Reaches}
+use Rattle.capsule.specs.Short.{shortHeader}
 use Rattle.capsule.proofs.Planning.{length-ends, type-ends}
 
 module _ (op : Opening) (p : List ℕ) where
@@ -67,21 +72,65 @@ two-bytes (a ∷ []) h = absurd (let z : ⊥ = omega arith in z)
 two-bytes (a ∷ b ∷ []) h = absurd (let z : ⊥ = omega arith in z)
 two-bytes (a ∷ b ∷ c ∷ p) h = omega arith
 
-module _ (op : Opening) (p : List ℕ) (l : 2 < length p) (t b : ℕ) (isT : t ≡ getD p 0 0) (isB : b ≡ getD p 1 0) (h : t < 64) where
-  pub short-one : b < 64 → Reaches op p (Value 2 t b b) (planType op p noBytes)
+module _ (op : Opening) (p : List ℕ) (l : 3 ≤ length p) (h : getD p 0 0 ≤ 63) where
+  short-one : getD p 1 0 < 64 → Reaches op p (Value 2 (getD p 0 0) (getD p 1 0) (getD p 1 0)) (planType op p noBytes)
   short-one k =
-      values op p 2 t b b (planType op p noBytes) (omega arith) (omega arith)
-      (sym (header op p b 1 (omega arith) (omega arith) (front-one (drop 1 p) (omega (arith, length-drop 1 p)) (omega (arith, second p)) ∙ ap (λ (n : ℕ). Whole n 1) (second p ∙ sym isB))
-      ∙ ap (λ (n : ℕ). planValue op p 2 n b b) (sym isT)))
+      values op p 2 (getD p 0 0) (getD p 1 0) (getD p 1 0) (planType op p noBytes) (omega arith) (omega arith)
+      (sym (header op p (getD p 1 0) 1 (omega arith) (omega arith) (front-one (drop 1 p) (omega (arith, length-drop 1 p)) (omega (arith, second p)) ∙ ap (λ (n : ℕ). Whole n 1) (second p))))
 
-  pub short-two : (d : ℕ) → d ≡ getD p 2 0 → 64 ≤ b → b < 128 → d < 256
-      → Reaches op p (Value 3 t ((b - 64) * 256 + d) ((b - 64) * 256 + d)) (planType op p noBytes)
-  short-two d isD m k c =
-      let n = (b - 64) * 256 + d in
-      let v : num (take 2 (drop 1 p)) % 16384 ≡ (b - 64) * 256 + d = omega (arith, two-bytes p l) in
-      values op p 3 t n n (planType op p noBytes) (omega arith) (omega arith)
-      (sym (header op p n 2 (omega arith) (omega arith) (front-whole (drop 1 p) 1 (omega (arith, length-drop 1 p)) (omega (arith, second p)) (omega (arith, length-drop 1 p)) ∙ ap (λ (m : ℕ). Whole m 2) v)
-      ∙ ap (λ (m : ℕ). planValue op p 3 m n n) (sym isT)))
+  short-two : 64 ≤ getD p 1 0 → getD p 1 0 ≤ 127 → getD p 2 0 < 256
+      → let n = (getD p 1 0 - 64) * 256 + getD p 2 0 in
+      Reaches op p (Value 3 (getD p 0 0) n n) (planType op p noBytes)
+  short-two m k c =
+      let n = (getD p 1 0 - 64) * 256 + getD p 2 0 in
+      let v : num (take 2 (drop 1 p)) % 16384 ≡ (getD p 1 0 - 64) * 256 + getD p 2 0 = omega (arith, two-bytes p (omega arith)) in
+      values op p 3 (getD p 0 0) n n (planType op p noBytes) (omega arith) (omega arith)
+      (sym (header op p n 2 (omega arith) (omega arith) (front-whole (drop 1 p) 1 (omega (arith, length-drop 1 p)) (omega (arith, second p)) (omega (arith, length-drop 1 p)) ∙ ap (λ (m : ℕ). Whole m 2) v)))
+
+-- as the code reads a short header
+pub header-few : (p : List ℕ) → length p < 3 → Long ≡ shortHeader p
+unfolding shortHeader
+header-few p h = rw (lt-leb 3 (length p) h)
+
+module _ (p : List ℕ) (l : 3 ≤ length p) (t : ℕ) (isT : t ≡ getD p 0 0) where
+  pub header-type : 63 < t → Long ≡ shortHeader p
+  unfolding shortHeader
+  header-type h = rw (le-leb 3 (length p) l, lt-leb (getD p 0 0) 63 (omega arith))
+
+  module _ (h : t ≤ 63) (n : ℕ) (isN : n ≡ getD p 1 0) where
+    pub header-one : n < 64 → Short 2 t n ≡ shortHeader p
+    unfolding shortHeader
+    header-one k = rw (le-leb 3 (length p) l, le-leb (getD p 0 0) 63 (omega arith), lt-ltb (getD p 1 0) 64 (omega arith), isT, isN)
+
+    pub header-length : 127 < n → Long ≡ shortHeader p
+    unfolding shortHeader
+    header-length k = rw (le-leb 3 (length p) l, le-leb (getD p 0 0) 63 (omega arith), le-ltb (getD p 1 0) 64 (omega arith), lt-leb (getD p 1 0) 127 (omega arith))
+
+    pub header-two : (d : ℕ) → d ≡ getD p 2 0 → 64 ≤ n → n ≤ 127 → Short 3 t ((n - 64) * 256 + d) ≡ shortHeader p
+    unfolding shortHeader
+    header-two d isD j k =
+        rw (le-leb 3 (length p) l, le-leb (getD p 0 0) 63 (omega arith), le-ltb (getD p 1 0) 64 (omega arith), le-leb (getD p 1 0) 127 (omega arith), isT, isN, isD)
+
+-- what a short header comes to
+unfoldable ShortReaches : Opening → List ℕ → Header → Type 0
+ShortReaches op p Long = Unit {0}
+ShortReaches op p (Short at t n) = Reaches op p (Value at t n n) (planType op p noBytes)
+
+short-reaches : (op : Opening) (p : List ℕ) → getD p 2 0 < 256 → ShortReaches op p (shortHeader p)
+unfolding shortHeader ShortReaches
+short-reaches op p c = go (leb 3 (length p)) refl (leb (getD p 0 0) 63) refl (ltb (getD p 1 0) 64) refl (leb (getD p 1 0) 127) refl
+  where
+    go : (l : Bool) → leb 3 (length p) ≡ l → (a : Bool) → leb (getD p 0 0) 63 ≡ a → (b : Bool) → ltb (getD p 1 0) 64 ≡ b → (d : Bool) → leb (getD p 1 0) 127 ≡ d → ShortReaches op p (shortHeader p)
+    go false l a e b f d g = rw l tt
+    go true l false e b f d g = rw (l, e) tt
+    go true l true e true f d g = rw (l, e, f) (short-one op p (leb-true 3 (length p) l) (leb-true (getD p 0 0) 63 e) (ltb-true (getD p 1 0) 64 f))
+    go true l true e false f true g =
+        rw (l, e, f, g) (short-two op p (leb-true 3 (length p) l) (leb-true (getD p 0 0) 63 e) (ltb-false (getD p 1 0) 64 f) (leb-true (getD p 1 0) 127 g) c)
+    go true l true e false f false g = rw (l, e, f, g) tt
+
+pub short-reached : (op : Opening) (p : List ℕ) (at t n : ℕ) → getD p 2 0 < 256 → shortHeader p ≡ Short at t n → Reaches op p (Value at t n n) (planType op p noBytes)
+unfolding ShortReaches
+short-reached op p at t n c e = rw e at (short-reaches op p c)
 
 -- before the first byte of a type
 pub from-start : (op : Opening) (p : List ℕ) (r : Reached) (phase : Phase) (part : Partial) → phase ≡ InType part → isMakeablePhase phase ≡ true → part .have ≡ 0

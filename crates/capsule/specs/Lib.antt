@@ -6,3 +6,4 @@ pub mod State
 pub mod Reader
 pub mod Moves
 pub mod Reaching
+pub mod Short

@@ -3,3 +3,4 @@ mod moves;
 pub mod opening;
 mod plan;
 pub mod reader;
+pub mod short;

@@ -6,6 +6,7 @@ ghost use lib.ListN.{length};
 ghost use Rattle.wire.specs.Partial.{partial};
 ghost use Rattle.capsule.specs.Reader.{noBytes, isMakeablePhase, planValue, planHead, planLength, planType, planOf, heldOf};
 ghost use Rattle.capsule.specs.Reaching.{Reaches};
+ghost use Rattle.capsule.specs.Short.{shortHeader};
 use crate::opening::Opening;
 use crate::reader::Ended;
 use crate::reader::Phase;
@@ -35,6 +36,12 @@ pub enum Reached {
         size: u64,
         left: u64,
     },
+}
+
+// What stands at the front of a piece: a header that is short and whole, with where its value starts, or any other bytes.
+pub enum Header {
+    Long,
+    Short { at: usize, ctype: u64, size: u64 },
 }
 
 fn wide(b: u8) -> u64
@@ -125,34 +132,48 @@ fn reach_by_type(op: Opening, piece: &[u8], part: Partial) -> Reached
     }
 }
 
-// From the start of a capsule. Most have a type of one byte and a length of one or two: a short way for these.
+// A type of one byte and a length of one or two, as most capsules have, at the front of a piece.
+pub(crate) fn short_header(piece: &[u8]) -> Header
+    ensures { λ r. ⌜ r ≡ shortHeader (now (piece .entry)) ⌝ }
+{
+    if piece.len() < 3 {
+        return Header::Long;
+    }
+    let ctype = wide(piece[0]);
+    if ctype > 63 {
+        return Header::Long;
+    }
+    let length = wide(piece[1]);
+    if length < 64 {
+        return Header::Short {
+            at: 2,
+            ctype: ctype,
+            size: length,
+        };
+    }
+    if length > 127 {
+        return Header::Long;
+    }
+    Header::Short {
+        at: 3,
+        ctype: ctype,
+        size: (length - 64) * 256 + wide(piece[2]),
+    }
+}
+
+// From the start of a capsule.
 fn reach_from_start(op: Opening, piece: &[u8]) -> Reached
     ensures { λ r. ⌜ Reaches op (now (piece .entry)) r (planType op (now (piece .entry)) noBytes) ⌝ }
 {
-    if piece.len() >= 3 {
-        let ctype = wide(piece[0]);
-        let length = wide(piece[1]);
-        if ctype < 64 {
-            if length < 64 {
-                return Reached::Value {
-                    at: 2,
-                    ctype: ctype,
-                    size: length,
-                    left: length,
-                };
-            }
-            if length < 128 {
-                let longer = (length - 64) * 256 + wide(piece[2]);
-                return Reached::Value {
-                    at: 3,
-                    ctype: ctype,
-                    size: longer,
-                    left: longer,
-                };
-            }
-        }
+    match short_header(piece) {
+        Header::Long => reach_by_type(op, piece, Partial::EMPTY),
+        Header::Short { at, ctype, size } => Reached::Value {
+            at: at,
+            ctype: ctype,
+            size: size,
+            left: size,
+        },
     }
-    reach_by_type(op, piece, Partial::EMPTY)
 }
 
 fn reach(op: Opening, piece: &[u8], phase: Phase) -> Reached

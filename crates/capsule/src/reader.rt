@@ -2,8 +2,9 @@
 ghost use mathlib.Core.Path.{_≡_};
 ghost use lib.ListN.{length};
 ghost use mathlib.Core.Bool.{true};
+ghost use Rattle.capsule.specs.declared.reader.Phase.the-variants.{InValue};
 ghost use Rattle.capsule.specs.declared.reader.Verdict.the-variants.{Accepted};
-ghost use Rattle.capsule.specs.Calls.{lent};
+ghost use Rattle.capsule.specs.Calls.{lent, lentVerdict};
 ghost use Rattle.capsule.specs.Reader.{openOf, isMakeablePhase, isMakeable, verdictOf, feeding, takeOf, feedOf, endAt, closeOf};
 use crate::moves::forward_bytes;
 use crate::moves::store_bytes;
@@ -73,6 +74,22 @@ pub enum Verdict {
     Refused(Refusal),
 }
 
+// Whether a value may have so many bytes to come.
+pub(crate) fn is_makeable_value(ctype: u64, length: u64, left: u64) -> bool
+    ensures { λ r. ⌜ r ≡ isMakeablePhase (InValue ctype length left) ⌝ }
+{
+    if ctype > 4611686018427387903 {
+        return false;
+    }
+    if length > 4611686018427387903 {
+        return false;
+    }
+    if left == 0 {
+        return false;
+    }
+    left <= length
+}
+
 // Whether some stream comes so far.
 fn is_makeable_phase(phase: Phase) -> bool
     ensures { λ r. ⌜ r ≡ isMakeablePhase phase ⌝ }
@@ -85,17 +102,30 @@ fn is_makeable_phase(phase: Phase) -> bool
             }
             part.is_possible()
         }
-        Phase::InValue(ctype, length, left) => {
-            if ctype > 4611686018427387903 {
-                return false;
+        Phase::InValue(ctype, length, left) => is_makeable_value(ctype, length, left),
+    }
+}
+
+impl Opening {
+    // What the lengths of the piece and of the lent buffers refuse.
+    pub(crate) fn verdict(self, piece: usize, gathering: usize, output: usize) -> Verdict
+        ensures { λ r. ⌜ r ≡ lentVerdict self piece gathering output ⌝ }
+    {
+        if (gathering as u64) < self.limit {
+            return Verdict::Refused(Refusal::GATHERING_TOO_SHORT);
+        }
+        let role = self.role;
+        match role {
+            Role::Endpoint => Verdict::Accepted,
+            Role::Intermediary => {
+                if output < 8 {
+                    return Verdict::Refused(Refusal::OUTPUT_TOO_SHORT);
+                }
+                if output - 8 < piece {
+                    return Verdict::Refused(Refusal::OUTPUT_TOO_SHORT);
+                }
+                Verdict::Accepted
             }
-            if length > 4611686018427387903 {
-                return false;
-            }
-            if left == 0 {
-                return false;
-            }
-            left <= length
         }
     }
 }
@@ -143,22 +173,7 @@ impl Reader {
             return Verdict::Refused(Refusal::FINISHED);
         }
         let opening = self.opening;
-        if (gathering as u64) < opening.limit {
-            return Verdict::Refused(Refusal::GATHERING_TOO_SHORT);
-        }
-        let role = opening.role;
-        match role {
-            Role::Endpoint => Verdict::Accepted,
-            Role::Intermediary => {
-                if output < 8 {
-                    return Verdict::Refused(Refusal::OUTPUT_TOO_SHORT);
-                }
-                if output - 8 < piece {
-                    return Verdict::Refused(Refusal::OUTPUT_TOO_SHORT);
-                }
-                Verdict::Accepted
-            }
-        }
+        opening.verdict(piece, gathering, output)
     }
 
     // A feeding that is not refused: plan first, then move the bytes.

@@ -1,5 +1,4 @@
-use native.Mathlib.Omega.{arith}
-use borrow.Author.Tests.{lt-ltb, le-leb, lt-leb}
+use borrow.Author.Tests.{le-leb, lt-leb}
 use Rattle.wire.specs.Varint.{largest}
 use Rattle.capsule.specs.Reader.{isMakeablePhase}
 use borrow.Author.Needs.{needs}
@@ -25,29 +24,19 @@ is-possible-requires-2 c κs = search needs
 enum-known-phase-3 : tie.Need-enum-known-phase-3
 enum-known-phase-3 c = search needs
 
+is-makeable-value-requires : tie.Need-is-makeable-value-requires
+is-makeable-value-requires c κs = search needs
+
 returns-2 : tie.Need-returns-2
-unfolding isMakeablePhase largest
-returns-2 c = rw (c .before .before .phase3 .given .1, lt-leb _ _ (c .if2 .taken))
+unfolding isMakeablePhase
+returns-2 c = rw (c .before .before .phase .given .1) (c .is-possible .ensures)
 
 returns-3 : tie.Need-returns-3
 unfolding isMakeablePhase largest
-returns-3 c = rw (c .before .before .before .phase3 .given .1, le-leb _ _ (c .before .if2 .left), lt-leb _ _ (c .if3 .taken))
+returns-3 c = rw (c .before .before .before .phase2 .given .1, le-leb _ _ (c .before .if1 .left)) (c .is-possible2 .ensures)
 
 returns-4 : tie.Need-returns-4
-unfolding isMakeablePhase largest
-returns-4 c = rw (c .before .before .before .before .phase3 .given .1, le-leb _ _ (c .before .before .if2 .left), le-leb _ _ (c .before .if3 .left), c .if4 .taken)
-
-returns-5 : tie.Need-returns-5
-unfolding isMakeablePhase
-returns-5 c = rw (c .before .before .phase .given .1) (c .is-possible .ensures)
-
-returns-6 : tie.Need-returns-6
-unfolding isMakeablePhase largest
-returns-6 c = rw (c .before .before .before .phase2 .given .1, le-leb _ _ (c .before .if1 .left)) (c .is-possible2 .ensures)
-
-returns-7 : tie.Need-returns-7
-unfolding isMakeablePhase largest
-returns-7 c = rw (c .before .before .before .before .phase3 .given .1, le-leb _ _ (c .before .before .if2 .left), le-leb _ _ (c .before .if3 .left), lt-ltb 0 (c .before .before .before .before .phase3 .given .0 .1 .1 .0) (omega arith))
+returns-4 c = rw (c .before .before .phase3 .given .1) (c .is-makeable-value .ensures)
 
 pub is-makeable-phase-spec : {M : Type 1} → statement M
 is-makeable-phase-spec =
@@ -59,9 +48,7 @@ is-makeable-phase-spec =
     returns
     is-possible-requires-2
     enum-known-phase-3
+    is-makeable-value-requires
     returns-2
     returns-3
-    returns-4
-    returns-5
-    returns-6
-    returns-7)
+    returns-4)

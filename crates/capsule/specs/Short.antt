@@ -1,0 +1,74 @@
+-- The short ways of a feeding: what they answer, by the feeding itself.
+use Prim.Native.Nat.{ℕ, _+_, _-_, _*_}
+use mathlib.Core.Bool.{Bool, false, cond}
+use mathlib.Core.List.{List}
+use lib.ListN.{length, getD}
+use lib.Dec.{leb, ltb}
+use Rattle.capsule.specs.declared.opening.Opening.{Opening}
+use Rattle.capsule.specs.declared.plan.Header.{Header}
+use Rattle.capsule.specs.declared.plan.Header.the-variants.{Long, Short}
+use Rattle.capsule.specs.declared.reader.Phase.the-variants.{InValue}
+use Rattle.capsule.specs.declared.reader.Reader.{Reader}
+use Rattle.capsule.specs.declared.reader.Ended.the-variants.{Nothing, Capsule}
+use Rattle.capsule.specs.declared.reader.FeedAnswer.{FeedAnswer}
+use Rattle.capsule.specs.declared.reader.FeedAnswer.the-variants as fedAs
+use Rattle.capsule.specs.declared.short.Whole.{Whole}
+use Rattle.capsule.specs.declared.short.Whole.the-variants as wholeAs
+use Rattle.capsule.specs.declared.short.Inside.{Inside}
+use Rattle.capsule.specs.declared.short.Inside.the-variants as insideAs
+use Rattle.capsule.specs.Calls.{Lent}
+use Rattle.capsule.specs.Reader.{fresh, Feeding, feedOf}
+
+-- ---- a whole capsule between two others
+
+-- a type of one byte and a length of one or two, among at least three bytes
+unfoldable pub shortHeader : List ℕ → Header
+shortHeader p =
+    let t = getD p 0 0 in
+    let n = getD p 1 0 in
+    cond (leb 3 (length p)) (cond (leb t 63) (cond (ltb n 64) (Short 2 t n) (cond (leb n 127) (Short 3 t ((n - 64) * 256 + getD p 2 0)) Long)) Long) Long
+
+-- the value stands in the piece, too
+unfoldable pub standsWhole : List ℕ → Header → Bool
+standsWhole p Long = false
+standsWhole p (Short at t n) = leb (at + n) (length p)
+
+pub record WholeFed : Type 0 where
+  pub answer : Whole
+  pub buffers : Lent
+
+abbrev pub wholeFed : Whole → Lent → WholeFed
+wholeFed a b = record { answer = a; buffers = b }
+
+unfoldable pub wholeIn : FeedAnswer → Whole
+wholeIn (fedAs.Refused r) = wholeAs.Not
+wholeIn (fedAs.Took consumed written Nothing) = wholeAs.Not
+wholeIn (fedAs.Took consumed written (Capsule r)) = wholeAs.Took consumed written r
+
+-- the feeding of a reader between two capsules, where a short header and its value stand in the piece
+unfoldable pub wholeOf : Opening → List ℕ → Lent → WholeFed
+wholeOf op p b =
+    let f = feedOf (fresh op) p b in
+    cond (standsWhole p (shortHeader p)) (wholeFed (wholeIn (f .answer)) (f .buffers)) (wholeFed wholeAs.Not b)
+
+-- ---- a piece within a value
+
+abbrev pub inValue : Opening → ℕ → ℕ → ℕ → Reader
+inValue op t n left = record { opening = op; phase = InValue t n left; finished = false }
+
+pub record InsideFed : Type 0 where
+  pub answer : Inside
+  pub buffers : Lent
+
+abbrev pub insideFed : Inside → Lent → InsideFed
+insideFed a b = record { answer = a; buffers = b }
+
+unfoldable pub insideIn : FeedAnswer → Inside
+insideIn (fedAs.Refused r) = insideAs.Not
+insideIn (fedAs.Took consumed written e) = insideAs.Took written
+
+-- the feeding of a reader in a value, where more of it is to come than the piece has
+unfoldable pub insideOf : Opening → ℕ → ℕ → ℕ → List ℕ → Lent → InsideFed
+insideOf op t n left p b =
+    let f = feedOf (inValue op t n left) p b in
+    cond (ltb (length p) left) (insideFed (insideIn (f .answer)) (f .buffers)) (insideFed insideAs.Not b)

@@ -1,0 +1,119 @@
+// Short ways through the two commonest feedings: a whole capsule between two others, and a piece that lies within a value. Any other
+// feeding, refused ones too, is left to the general way.
+ghost use mathlib.Core.Path.{_≡_};
+ghost use Prim.Native.Nat.{_≤_};
+ghost use lib.ListN.{length};
+ghost use Rattle.capsule.specs.declared.plan.Header.the-variants.{Short};
+ghost use Rattle.capsule.specs.declared.reader.Verdict.the-variants.{Accepted};
+ghost use Rattle.capsule.specs.Calls.{lent};
+ghost use Rattle.capsule.specs.Reader.{fresh, verdictOf};
+ghost use Rattle.capsule.specs.Short.{shortHeader, wholeFed, wholeOf, insideFed, insideOf};
+use crate::moves::forward_bytes;
+use crate::moves::store_bytes;
+use crate::opening::Opening;
+use crate::opening::Report;
+use crate::plan::Header;
+use crate::plan::short_header;
+use crate::reader::Verdict;
+use crate::reader::is_makeable_value;
+use wire::partial::Partial;
+
+pub enum Whole {
+    // nothing was changed
+    Not,
+    Took {
+        consumed: usize,
+        written: usize,
+        report: Report,
+    },
+}
+
+pub enum Inside {
+    // nothing was changed
+    Not,
+    // all of the piece was consumed
+    Took { written: usize },
+}
+
+impl Opening {
+    fn take_whole(
+        self,
+        piece: &[u8],
+        at: usize,
+        ctype: u64,
+        size: u64,
+        gathering: &mut [u8],
+        output: &mut [u8],
+    ) -> Whole
+        requires { ⌜ (verdictOf (fresh self) (length (now piece)) (length (now gathering)) (length (now output)) ≡ Accepted) × (shortHeader (now piece) ≡ Short at ctype size) × (at ≤ length (now piece)) ⌝ }
+        ensures { λ r. ⌜ wholeFed r (lent (now (gathering .exit)) (now (output .exit))) ≡ wholeOf self (now (piece .entry)) (lent (now (gathering .entry)) (now (output .entry))) ⌝ }
+    {
+        if size > ((piece.len() - at) as u64) {
+            return Whole::Not;
+        }
+        let end = at + (size as usize);
+        let store = self.gathers(ctype, size);
+        let forward = self.forwards(ctype);
+        store_bytes(piece, gathering, store, at, end, 0);
+        let written = forward_bytes(piece, output, forward, Partial::EMPTY, end);
+        Whole::Took {
+            consumed: end,
+            written: written,
+            report: self.report(ctype, size),
+        }
+    }
+
+    // A feeding between two capsules.
+    pub fn feed_whole(self, piece: &[u8], gathering: &mut [u8], output: &mut [u8]) -> Whole
+        ensures { λ r. ⌜ wholeFed r (lent (now (gathering .exit)) (now (output .exit))) ≡ wholeOf self (now (piece .entry)) (lent (now (gathering .entry)) (now (output .entry))) ⌝ }
+    {
+        if self.limit > Opening::MAX_LIMIT {
+            return Whole::Not;
+        }
+        let verdict = self.verdict(piece.len(), gathering.len(), output.len());
+        match verdict {
+            Verdict::Refused(_) => Whole::Not,
+            Verdict::Accepted => match short_header(piece) {
+                Header::Long => Whole::Not,
+                Header::Short { at, ctype, size } => {
+                    self.take_whole(piece, at, ctype, size, gathering, output)
+                }
+            },
+        }
+    }
+
+    // A feeding within a value of which `left` bytes are to come.
+    pub fn feed_inside(
+        self,
+        ctype: u64,
+        size: u64,
+        left: u64,
+        piece: &[u8],
+        gathering: &mut [u8],
+        output: &mut [u8],
+    ) -> Inside
+        ensures { λ r. ⌜ insideFed r (lent (now (gathering .exit)) (now (output .exit))) ≡ insideOf self ctype size left (now (piece .entry)) (lent (now (gathering .entry)) (now (output .entry))) ⌝ }
+    {
+        if self.limit > Opening::MAX_LIMIT {
+            return Inside::Not;
+        }
+        if !is_makeable_value(ctype, size, left) {
+            return Inside::Not;
+        }
+        let n = piece.len();
+        if left <= (n as u64) {
+            return Inside::Not;
+        }
+        let verdict = self.verdict(n, gathering.len(), output.len());
+        match verdict {
+            Verdict::Refused(_) => Inside::Not,
+            Verdict::Accepted => {
+                let store = self.gathers(ctype, size);
+                let forward = self.forwards(ctype);
+                store_bytes(piece, gathering, store, 0, n, size - left);
+                let written = forward_bytes(piece, output, forward, Partial::EMPTY, n);
+                Inside::Took { written: written }
+            }
+        }
+    }
+}
