@@ -26,7 +26,7 @@ pub fn read(bytes: &[u8]) -> Option<(u64, usize)> {
 
 /// An integer that may arrive in several pieces.
 #[derive(Clone, Copy, Debug, Default, PartialEq, Eq)]
-pub(super) struct Arriving {
+pub(crate) struct Arriving {
     bytes: [u8; 8],
     come: usize,
 }

@@ -1,221 +1,8 @@
-//! Captures made from a seed: streams of capsules, whole, cut and damaged.
+//! The bytes of a capture of each kind.
 
-use std::collections::VecDeque;
-use std::fmt;
-
-use crate::independent::varint::LARGEST;
-
-/// A generator of numbers that look random (splitmix64).
-pub struct Random(u64);
-
-impl Random {
-    pub fn new(seed: u64) -> Random {
-        Random(seed)
-    }
-
-    pub fn number(&mut self) -> u64 {
-        self.0 = self.0.wrapping_add(0x9e37_79b9_7f4a_7c15);
-        let mut mixed = self.0;
-        mixed = (mixed ^ (mixed >> 30)).wrapping_mul(0xbf58_476d_1ce4_e5b9);
-        mixed = (mixed ^ (mixed >> 27)).wrapping_mul(0x94d0_49bb_1331_11eb);
-        mixed ^ (mixed >> 31)
-    }
-
-    /// A number from `least` to `most`.
-    pub fn between(&mut self, least: u64, most: u64) -> u64 {
-        let count = u128::from(most - least) + 1;
-        least + ((u128::from(self.number()) * count) >> 64) as u64
-    }
-
-    fn size(&mut self, least: usize, most: usize) -> usize {
-        self.between(least as u64, most as u64) as usize
-    }
-
-    fn one_of<T: Copy>(&mut self, choices: &[T]) -> T {
-        choices[self.size(0, choices.len() - 1)]
-    }
-
-    fn one_in(&mut self, count: u64) -> bool {
-        self.between(1, count) == 1
-    }
-
-    fn bytes(&mut self, count: usize) -> Vec<u8> {
-        let mut bytes = Vec::with_capacity(count + 7);
-        while bytes.len() < count {
-            bytes.extend(self.number().to_le_bytes());
-        }
-        bytes.truncate(count);
-        bytes
-    }
-}
-
-/// What a capture is meant to try.
-#[derive(Clone, Copy, Debug, PartialEq, Eq, Hash)]
-pub enum Kind {
-    /// A written-out case.
-    Written,
-    /// Nothing at all.
-    Empty,
-    /// Whole capsules, their numbers in shortest form.
-    Shortest,
-    /// Whole capsules, their numbers in any form.
-    AnyForm,
-    /// A short stream, cut after each of its bytes in turn.
-    Cut,
-    /// A stream in which some bytes have been altered, put in or taken out.
-    Damaged,
-    /// A last capsule with a length that never comes, up to the largest number.
-    HugeLength,
-    /// Reserved types, DATAGRAM's type of draft 05, and their neighbours.
-    Types,
-    /// Capsules without a value.
-    ZeroLength,
-    /// Lengths next to the datagram limit of the listing and next to the bounds of the forms.
-    Limit,
-    /// Bytes of no meaning.
-    Noise,
-    /// A capsule of more than 64 KiB.
-    Long,
-    /// A header across the end of a block of a usual size.
-    Straddling,
-    /// So many small capsules that their listing fills any pipe.
-    Many,
-}
-
-impl fmt::Display for Kind {
-    fn fmt(&self, formatter: &mut fmt::Formatter) -> fmt::Result {
-        formatter.write_str(match self {
-            Kind::Written => "written-out case",
-            Kind::Empty => "empty",
-            Kind::Shortest => "shortest forms",
-            Kind::AnyForm => "any forms",
-            Kind::Cut => "cut",
-            Kind::Damaged => "damaged",
-            Kind::HugeLength => "huge length",
-            Kind::Types => "types",
-            Kind::ZeroLength => "zero length",
-            Kind::Limit => "limit",
-            Kind::Noise => "noise",
-            Kind::Long => "long",
-            Kind::Straddling => "straddling",
-            Kind::Many => "many",
-        })
-    }
-}
-
-#[derive(Clone, Debug, PartialEq, Eq)]
-pub struct Capture {
-    pub kind: Kind,
-    pub bytes: Vec<u8>,
-}
-
-/// The kinds of one round. A cut stream makes as many captures as it can be cut.
-const ROUND: [Kind; 24] = [
-    Kind::Shortest,
-    Kind::AnyForm,
-    Kind::Cut,
-    Kind::Damaged,
-    Kind::HugeLength,
-    Kind::Types,
-    Kind::ZeroLength,
-    Kind::Limit,
-    Kind::Noise,
-    Kind::Straddling,
-    Kind::AnyForm,
-    Kind::Damaged,
-    Kind::HugeLength,
-    Kind::Limit,
-    Kind::Many,
-    Kind::Types,
-    Kind::AnyForm,
-    Kind::Damaged,
-    Kind::Straddling,
-    Kind::Long,
-    Kind::Noise,
-    Kind::HugeLength,
-    Kind::Limit,
-    Kind::Empty,
-];
-
-/// The endless row of captures that belongs to a seed.
-pub struct Captures {
-    random: Random,
-    turn: usize,
-    waiting: VecDeque<Capture>,
-}
-
-impl Captures {
-    pub fn new(seed: u64) -> Captures {
-        Captures {
-            random: Random::new(seed),
-            turn: 0,
-            waiting: VecDeque::new(),
-        }
-    }
-}
-
-impl Iterator for Captures {
-    type Item = Capture;
-
-    fn next(&mut self) -> Option<Capture> {
-        if self.waiting.is_empty() {
-            let kind = ROUND[self.turn % ROUND.len()];
-            self.turn += 1;
-            let bytes = stream(&mut self.random, kind);
-            if kind == Kind::Cut {
-                self.waiting.extend(cuts(&bytes, kind));
-            } else {
-                self.waiting.push_back(Capture { kind, bytes });
-            }
-        }
-        self.waiting.pop_front()
-    }
-}
-
-/// Cases written out by hand: short ones, each cut after each of its bytes, and a header that lies in every way across
-/// the end of a block.
-pub fn written() -> Vec<Capture> {
-    let cases: [&[u8]; 9] = [
-        &[
-            0x00, 0x03, 0x61, 0x62, 0x63, 0x17, 0x00, 0x40, 0x40, 0x02, 0xff, 0xee, 0x00, 0x00,
-        ],
-        // DATAGRAM in each longer form of its type
-        &[0x40, 0x00, 0x02, 0x78, 0x79],
-        &[0x80, 0x00, 0x00, 0x00, 0x01, 0x78],
-        &[0xc0, 0x00, 0x00, 0x00, 0x00, 0x00, 0x00, 0x00, 0x01, 0x78],
-        // length 0 in a longer form
-        &[0x17, 0x40, 0x00, 0x00, 0x80, 0x00, 0x00, 0x00],
-        // the largest length
-        &[
-            0x17, 0xff, 0xff, 0xff, 0xff, 0xff, 0xff, 0xff, 0xff, 0x00, 0x00,
-        ],
-        &[
-            0x00, 0xff, 0xff, 0xff, 0xff, 0xff, 0xff, 0xff, 0xff, 0x00, 0x00,
-        ],
-        // DATAGRAM's type of draft 05, in two forms
-        &[0x80, 0xff, 0x37, 0xa5, 0x01, 0x7a],
-        &[0xc0, 0x00, 0x00, 0x00, 0x00, 0xff, 0x37, 0xa5, 0x01, 0x7a],
-    ];
-    let short = cases.iter().flat_map(|case| cuts(case, Kind::Written));
-    let across = [4_096, 65_536]
-        .into_iter()
-        .flat_map(|block| (block - 13..=block).map(header_at));
-    short.chain(across).collect()
-}
-
-/// A capsule whose header, with no byte 0 in it, begins after `start` bytes, and a DATAGRAM behind it.
-fn header_at(start: usize) -> Capture {
-    let mut bytes = Vec::new();
-    push_filler(&mut bytes, 0x17, start);
-    bytes.extend([0xc1, 0x02, 0x03, 0x04, 0x05, 0x06, 0x07, 0x08]);
-    bytes.extend([0x80, 0x01, 0x02, 0x03]);
-    bytes.resize(bytes.len() + 0x010203, 0x00);
-    bytes.extend([0x00, 0x01, 0x78]);
-    Capture {
-        kind: Kind::Written,
-        bytes,
-    }
-}
+use super::Kind;
+use crate::random::Random;
+use crate::varint::LARGEST;
 
 /// A stream of whole capsules of at least `size` bytes, with values of up to 1,300 bytes.
 pub fn long_stream(seed: u64, size: usize) -> Vec<u8> {
@@ -238,20 +25,16 @@ pub fn long_stream(seed: u64, size: usize) -> Vec<u8> {
     stream
 }
 
-fn cuts(stream: &[u8], kind: Kind) -> impl Iterator<Item = Capture> + '_ {
-    (0..=stream.len()).map(move |cut| Capture {
-        kind,
-        bytes: stream[..cut].to_vec(),
-    })
-}
-
+/// How a number is written.
 #[derive(Clone, Copy)]
-enum Form {
+pub enum Form {
     Shortest,
+    /// Any form that can hold it, each as likely as another.
     Any,
 }
 
-fn push_number(stream: &mut Vec<u8>, random: &mut Random, form: Form, number: u64) {
+/// Writes a number in its shortest form, or in any of the forms that hold it.
+pub fn push_number(stream: &mut Vec<u8>, random: &mut Random, form: Form, number: u64) {
     assert!(number <= LARGEST);
     let least: u32 = match number {
         0..=0x3f => 0,
@@ -299,12 +82,14 @@ fn reserved_type(random: &mut Random) -> u64 {
     0x29 * number + 0x17
 }
 
-fn number_of_any_size(random: &mut Random) -> u64 {
+/// A number of up to 62 bits, each size as likely as another.
+pub fn number_of_any_size(random: &mut Random) -> u64 {
     let bits = random.between(0, 62);
     random.number() & ((1 << bits) - 1)
 }
 
-fn capsule_type(random: &mut Random) -> u64 {
+/// A capsule type, in half of all cases DATAGRAM.
+pub fn capsule_type(random: &mut Random) -> u64 {
     match random.between(0, 9) {
         0..=4 => 0,
         5 => random.between(1, 70),
@@ -329,7 +114,7 @@ fn small_capsules(random: &mut Random, form: Form, count: usize) -> Vec<u8> {
     stream
 }
 
-fn stream(random: &mut Random, kind: Kind) -> Vec<u8> {
+pub(super) fn stream(random: &mut Random, kind: Kind) -> Vec<u8> {
     match kind {
         Kind::Empty | Kind::Written => Vec::new(),
         Kind::Shortest => {
@@ -516,61 +301,9 @@ fn straddling(random: &mut Random) -> Vec<u8> {
 }
 
 /// One capsule that ends where the stream is `end` bytes long: a type of one byte and a length of four.
-fn push_filler(stream: &mut Vec<u8>, capsule_type: u8, end: usize) {
+pub(super) fn push_filler(stream: &mut Vec<u8>, capsule_type: u8, end: usize) {
     let length = end - stream.len() - 5;
     stream.push(capsule_type);
     stream.extend((0x8000_0000 | length as u32).to_be_bytes());
     stream.resize(end, 0x00);
-}
-
-#[cfg(test)]
-mod tests {
-    use super::*;
-    use crate::independent::varint;
-    use std::collections::HashSet;
-
-    #[test]
-    fn numbers_are_written_as_they_are_read() {
-        let mut random = Random::new(1);
-        let mut sizes = HashSet::new();
-        for _ in 0..10_000 {
-            let number = number_of_any_size(&mut random);
-            let mut shortest = Vec::new();
-            push_number(&mut shortest, &mut random, Form::Shortest, number);
-            assert_eq!(varint::read(&shortest), Some((number, shortest.len())));
-            let mut any = Vec::new();
-            push_number(&mut any, &mut random, Form::Any, number);
-            assert_eq!(varint::read(&any), Some((number, any.len())));
-            assert!(shortest.len() <= any.len());
-            sizes.insert((shortest.len(), any.len()));
-        }
-        assert_eq!(sizes.len(), 10);
-    }
-
-    #[test]
-    fn a_seed_gives_the_same_captures_again() {
-        let first: Vec<_> = Captures::new(5).take(200).collect();
-        let second: Vec<_> = Captures::new(5).take(200).collect();
-        assert!(first == second);
-        let other: Vec<_> = Captures::new(6).take(200).collect();
-        assert!(first != other);
-    }
-
-    #[test]
-    fn a_round_has_every_kind() {
-        let kinds: HashSet<_> = Captures::new(7).take(100).map(|c| c.kind).collect();
-        assert_eq!(kinds.len(), 13);
-        assert!(Captures::new(7)
-            .take(100)
-            .filter(|c| c.kind == Kind::Long)
-            .all(|c| c.bytes.len() > 65_536));
-    }
-
-    #[test]
-    fn written_cases_hold_every_cut() {
-        let written = written();
-        let empty = written.iter().filter(|c| c.bytes.is_empty()).count();
-        assert_eq!(empty, 9);
-        assert!(written.iter().any(|c| c.bytes == [0x00, 0x03, 0x61]));
-    }
 }

@@ -8,9 +8,10 @@ use std::process::ExitCode;
 use std::sync::Arc;
 use std::time::{Duration, SystemTime, UNIX_EPOCH};
 
-use maruzhenu::captures::{written, Capture, Captures, Random};
-use maruzhenu::independent::listing::list;
-use maruzhenu::program::{run, End};
+use independent::captures::{written, Capture, Captures};
+use independent::listing::list;
+use independent::program::{run, End};
+use independent::Random;
 
 const USAGE: &str =
     "usage: compare_listings PROGRAM [--count N] [--seed HEX] [--keep FOLDER] [--patience SECONDS]";

@@ -5,7 +5,7 @@ use std::env;
 use std::io::{self, Write};
 use std::process::ExitCode;
 
-use maruzhenu::captures::{long_stream, Captures};
+use independent::captures::{long_stream, Captures};
 
 fn capture(arguments: &[String]) -> Option<Vec<u8>> {
     match arguments {

@@ -2,7 +2,7 @@
 
 use std::io::{self, ErrorKind, Read, Write};
 
-use super::{Closing, Reader, Report, Role};
+use crate::{Closing, Reader, Report, Role};
 
 /// The datagram limit of the listing.
 pub const LIMIT: usize = 1_200;

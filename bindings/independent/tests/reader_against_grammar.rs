@@ -1,7 +1,7 @@
 //! The reader, fed in pieces of any length, against a plain reading of the whole stream.
 
-use maruzhenu::captures::{written, Captures, Kind, Random};
-use maruzhenu::independent::{varint, Closing, Reader, Refusal, Report, Role};
+use independent::captures::{written, Captures, Kind};
+use independent::{varint, Closing, Random, Reader, Refusal, Report, Role};
 
 const LIMITS: [u64; 4] = [0, 3, 1_200, 65_535];
 

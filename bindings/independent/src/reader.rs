@@ -1,0 +1,264 @@
+//! The capsule stream reader, RFC 9297 section 3.2.
+
+use crate::varint::Arriving;
+
+/// The DATAGRAM capsule type, RFC 9297 section 3.5.
+const DATAGRAM: u64 = 0x00;
+/// The DATAGRAM capsule type of draft 05.
+const DATAGRAM_OF_DRAFT: u64 = 0xff37a5;
+const LARGEST_LIMIT: u64 = 65_535;
+/// Bytes of output that an intermediary needs beyond the length of a piece.
+const SPARE_OUTPUT: usize = 8;
+
+#[derive(Clone, Copy, Debug, PartialEq, Eq)]
+pub enum Role {
+    Endpoint,
+    Intermediary,
+}
+
+/// What is said of a capsule when it ends.
+#[derive(Clone, Copy, Debug, PartialEq, Eq)]
+pub enum Report {
+    /// A DATAGRAM within the limit; its value stands at the front of the gathering buffer.
+    Delivered { length: u64 },
+    /// A DATAGRAM longer than the limit.
+    Dropped { length: u64 },
+    /// A capsule of unknown type, at an endpoint.
+    Skipped { capsule_type: u64, length: u64 },
+    /// A capsule of unknown type, at an intermediary.
+    Passed { capsule_type: u64, length: u64 },
+}
+
+/// The answer to an accepted feeding.
+#[derive(Clone, Copy, Debug, PartialEq, Eq)]
+pub struct Fed {
+    /// Bytes of the piece that were consumed.
+    pub consumed: usize,
+    /// Bytes that were written to the front of the output.
+    pub written: usize,
+    /// The capsule that ended, if one did.
+    pub report: Option<Report>,
+}
+
+/// The answer to a clean close of the stream, RFC 9297 section 3.3.
+#[derive(Clone, Copy, Debug, PartialEq, Eq)]
+pub enum Closing {
+    Clean,
+    Truncated,
+}
+
+/// Why a call was refused. A refused call changes nothing.
+#[derive(Clone, Copy, Debug, PartialEq, Eq)]
+pub enum Refusal {
+    Finished = 2,
+    LimitTooLarge = 3,
+    GatheringBufferTooShort = 4,
+    OutputTooShort = 5,
+}
+
+impl Refusal {
+    pub fn number(self) -> u8 {
+        self as u8
+    }
+}
+
+/// Where the next byte of the stream belongs.
+#[derive(Clone, Copy, Debug, PartialEq, Eq)]
+enum State {
+    Type,
+    Length {
+        capsule_type: u64,
+    },
+    /// Of the value, `left` bytes are still to come, never none.
+    Value {
+        capsule_type: u64,
+        length: u64,
+        left: u64,
+    },
+}
+
+/// A reader of one stream of capsules.
+#[derive(Clone, Debug, PartialEq, Eq)]
+pub struct Reader {
+    role: Role,
+    limit: u64,
+    draft: bool,
+    finished: bool,
+    state: State,
+    arriving_type: Arriving,
+    arriving_length: Arriving,
+}
+
+impl Reader {
+    /// Opens a reader. With `draft`, the DATAGRAM capsule type of draft 05 counts as DATAGRAM too.
+    pub fn new(role: Role, limit: u64, draft: bool) -> Result<Reader, Refusal> {
+        if limit > LARGEST_LIMIT {
+            return Err(Refusal::LimitTooLarge);
+        }
+        Ok(Reader {
+            role,
+            limit,
+            draft,
+            finished: false,
+            state: State::Type,
+            arriving_type: Arriving::default(),
+            arriving_length: Arriving::default(),
+        })
+    }
+
+    /// Consumes `piece` up to the end of the first capsule that ends in it, or all of it if none does.
+    ///
+    /// The value of a DATAGRAM within the limit is stored at the front of `gather`, which the caller hands in
+    /// again until the capsule has ended. An intermediary writes the capsules of unknown type to `out`, byte for
+    /// byte as they came, each as soon as its type is known.
+    #[inline]
+    pub fn feed(
+        &mut self,
+        piece: &[u8],
+        gather: &mut [u8],
+        out: &mut [u8],
+    ) -> Result<Fed, Refusal> {
+        if self.finished {
+            return Err(Refusal::Finished);
+        }
+        if (gather.len() as u64) < self.limit {
+            return Err(Refusal::GatheringBufferTooShort);
+        }
+        if self.role == Role::Intermediary && out.len() < piece.len() + SPARE_OUTPUT {
+            return Err(Refusal::OutputTooShort);
+        }
+
+        let held = self.arriving_type.come();
+        let Advance {
+            consumed,
+            capsule_type,
+            report,
+        } = self.advance(piece, gather);
+
+        // All consumed bytes belong to the one capsule that the call began in.
+        let mut written = 0;
+        if self.role == Role::Intermediary
+            && capsule_type.is_some_and(|capsule_type| !self.is_datagram(capsule_type))
+        {
+            written = held + consumed;
+            out[..held].copy_from_slice(self.arriving_type.earlier(held));
+            out[held..written].copy_from_slice(&piece[..consumed]);
+        }
+        Ok(Fed {
+            consumed,
+            written,
+            report,
+        })
+    }
+
+    /// Answers a clean close of the stream and finishes the reader.
+    pub fn close(&mut self) -> Result<Closing, Refusal> {
+        if self.finished {
+            return Err(Refusal::Finished);
+        }
+        self.finished = true;
+        if self.state == State::Type && self.arriving_type.come() == 0 {
+            Ok(Closing::Clean)
+        } else {
+            Ok(Closing::Truncated)
+        }
+    }
+
+    #[inline]
+    fn is_datagram(&self, capsule_type: u64) -> bool {
+        capsule_type == DATAGRAM || (self.draft && capsule_type == DATAGRAM_OF_DRAFT)
+    }
+
+    /// Reads on to the end of the capsule or of the piece.
+    #[inline]
+    fn advance(&mut self, piece: &[u8], gather: &mut [u8]) -> Advance {
+        let mut consumed = 0;
+        let (capsule_type, length, left) = match self.state {
+            State::Value {
+                capsule_type,
+                length,
+                left,
+            } => (capsule_type, length, left),
+            State::Type | State::Length { .. } => {
+                let capsule_type = match self.state {
+                    State::Length { capsule_type } => capsule_type,
+                    _ => {
+                        let (taken, whole) = self.arriving_type.take(piece);
+                        consumed = taken;
+                        match whole {
+                            Some(capsule_type) => capsule_type,
+                            None => return Advance::within(consumed, None),
+                        }
+                    }
+                };
+                let (taken, whole) = self.arriving_length.take(&piece[consumed..]);
+                consumed += taken;
+                match whole {
+                    Some(length) => (capsule_type, length, length),
+                    None => {
+                        self.state = State::Length { capsule_type };
+                        return Advance::within(consumed, Some(capsule_type));
+                    }
+                }
+            }
+        };
+
+        let is_datagram = self.is_datagram(capsule_type);
+        let rest = &piece[consumed..];
+        let here = left.min(rest.len() as u64) as usize;
+        if is_datagram && length <= self.limit {
+            let place = (length - left) as usize;
+            gather[place..place + here].copy_from_slice(&rest[..here]);
+        }
+        consumed += here;
+        let left = left - here as u64;
+        if left > 0 {
+            self.state = State::Value {
+                capsule_type,
+                length,
+                left,
+            };
+            return Advance::within(consumed, Some(capsule_type));
+        }
+        self.state = State::Type;
+        let report = match (is_datagram, self.role) {
+            (true, _) if length <= self.limit => Report::Delivered { length },
+            (true, _) => Report::Dropped { length },
+            (false, Role::Endpoint) => Report::Skipped {
+                capsule_type,
+                length,
+            },
+            (false, Role::Intermediary) => Report::Passed {
+                capsule_type,
+                length,
+            },
+        };
+        Advance {
+            consumed,
+            capsule_type: Some(capsule_type),
+            report: Some(report),
+        }
+    }
+}
+
+/// How far one call came.
+struct Advance {
+    consumed: usize,
+    /// The type of the capsule at hand, if all of it has come.
+    capsule_type: Option<u64>,
+    report: Option<Report>,
+}
+
+impl Advance {
+    #[inline]
+    fn within(consumed: usize, capsule_type: Option<u64>) -> Advance {
+        Advance {
+            consumed,
+            capsule_type,
+            report: None,
+        }
+    }
+}
+
+#[cfg(test)]
+mod tests;
