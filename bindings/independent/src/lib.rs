@@ -9,11 +9,18 @@
 #![forbid(unsafe_code)]
 
 pub mod captures;
+pub mod http;
+pub mod judge;
 pub mod listing;
+pub mod oneshot;
 pub mod program;
 pub mod random;
 pub mod reader;
+mod refusal;
+pub mod table;
 pub mod varint;
+pub mod writers;
 
 pub use random::Random;
-pub use reader::{Closing, Fed, Reader, Refusal, Report, Role};
+pub use reader::{Closing, Fed, Reader, Report, Role};
+pub use refusal::Refusal;

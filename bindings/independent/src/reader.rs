@@ -1,12 +1,16 @@
 //! The capsule stream reader, RFC 9297 section 3.2.
 
 use crate::varint::Arriving;
+use crate::Refusal;
+
+mod words;
 
 /// The DATAGRAM capsule type, RFC 9297 section 3.5.
 const DATAGRAM: u64 = 0x00;
 /// The DATAGRAM capsule type of draft 05.
 const DATAGRAM_OF_DRAFT: u64 = 0xff37a5;
-const LARGEST_LIMIT: u64 = 65_535;
+/// The largest datagram limit.
+pub const LARGEST_LIMIT: u64 = 65_535;
 /// Bytes of output that an intermediary needs beyond the length of a piece.
 const SPARE_OUTPUT: usize = 8;
 
@@ -45,21 +49,6 @@ pub struct Fed {
 pub enum Closing {
     Clean,
     Truncated,
-}
-
-/// Why a call was refused. A refused call changes nothing.
-#[derive(Clone, Copy, Debug, PartialEq, Eq)]
-pub enum Refusal {
-    Finished = 2,
-    LimitTooLarge = 3,
-    GatheringBufferTooShort = 4,
-    OutputTooShort = 5,
-}
-
-impl Refusal {
-    pub fn number(self) -> u8 {
-        self as u8
-    }
 }
 
 /// Where the next byte of the stream belongs.

@@ -1,5 +1,7 @@
 //! Variable-length integers, RFC 9000 section 16.
 
+use crate::Refusal;
+
 /// The largest value that can be encoded.
 pub const LARGEST: u64 = (1 << 62) - 1;
 
@@ -24,6 +26,47 @@ pub fn read(bytes: &[u8]) -> Option<(u64, usize)> {
     })
 }
 
+/// The least number of bytes that holds `number`.
+#[inline]
+pub fn size(number: u64) -> usize {
+    match number {
+        0..=63 => 1,
+        64..=16_383 => 2,
+        16_384..=1_073_741_823 => 4,
+        _ => 8,
+    }
+}
+
+/// Encodes `number` into all of `out`, which is as long as one of the four sizes and can hold it.
+#[inline]
+pub fn encode(number: u64, out: &mut [u8]) {
+    match out.len() {
+        1 => out[0] = number as u8,
+        2 => out.copy_from_slice(&(number as u16 | 0x4000).to_be_bytes()),
+        4 => out.copy_from_slice(&(number as u32 | 0x8000_0000).to_be_bytes()),
+        _ => out.copy_from_slice(&(number | 0xc000_0000_0000_0000).to_be_bytes()),
+    }
+}
+
+/// Writes `number` in its least size at a place of the output. Answers how many bytes were written.
+pub fn write(number: u64, out: &mut [u8], place: u64) -> Result<usize, Refusal> {
+    if number > LARGEST {
+        return Err(Refusal::NumberTooLarge);
+    }
+    let space = place_for(out, place, size(number))?;
+    encode(number, space);
+    Ok(space.len())
+}
+
+/// The `size` bytes of `out` from `place` on.
+#[inline]
+pub(crate) fn place_for(out: &mut [u8], place: u64, size: usize) -> Result<&mut [u8], Refusal> {
+    usize::try_from(place)
+        .ok()
+        .and_then(|place| out.get_mut(place..)?.get_mut(..size))
+        .ok_or(Refusal::OutputTooShort)
+}
+
 /// An integer that may arrive in several pieces.
 #[derive(Clone, Copy, Debug, Default, PartialEq, Eq)]
 pub(crate) struct Arriving {
@@ -42,6 +85,28 @@ impl Arriving {
     #[inline]
     pub fn earlier(&self, come: usize) -> &[u8] {
         &self.bytes[..come]
+    }
+
+    /// How many bytes have come, and their big-endian number.
+    pub fn numbers(&self) -> (u64, u64) {
+        let number = self.bytes[..self.come]
+            .iter()
+            .fold(0, |number, &byte| number << 8 | u64::from(byte));
+        (self.come as u64, number)
+    }
+
+    /// The integer of which so many bytes have come, with that big-endian number. `None` if they are a whole one
+    /// already, or the number does not fit into so many bytes.
+    pub fn from_numbers(come: u64, number: u64) -> Option<Arriving> {
+        let come = usize::try_from(come).ok().filter(|&come| come < 8)?;
+        let all = number.to_be_bytes();
+        let (zeros, last) = all.split_at(8 - come);
+        if zeros.iter().any(|&byte| byte != 0) || read(last).is_some() {
+            return None;
+        }
+        let mut bytes = [0; 8];
+        bytes[..come].copy_from_slice(last);
+        Some(Arriving { bytes, come })
     }
 
     /// Takes bytes from the front of `input` until the integer is whole. Answers how many were taken, and the
@@ -107,6 +172,35 @@ mod tests {
                 assert_eq!(arriving.come(), 0);
                 assert_eq!(arriving.earlier(cut), &bytes[..cut]);
             }
+        }
+    }
+
+    #[test]
+    fn numbers_are_written_in_least_size() {
+        for (number, bytes) in [
+            (0, &[0x00][..]),
+            (63, &[0x3f]),
+            (64, &[0x40, 0x40]),
+            (16_383, &[0x7f, 0xff]),
+            (16_384, &[0x80, 0x00, 0x40, 0x00]),
+            ((1 << 30) - 1, &[0xbf, 0xff, 0xff, 0xff]),
+            (1 << 30, &[0xc0, 0, 0, 0, 0x40, 0, 0, 0]),
+            (LARGEST, &[0xff; 8]),
+        ] {
+            let mut out = [0xaa; 10];
+            assert_eq!(write(number, &mut out, 1), Ok(bytes.len()));
+            assert_eq!(out[1..1 + bytes.len()], *bytes);
+            assert_eq!(out[0], 0xaa);
+            assert!(out[1 + bytes.len()..].iter().all(|&byte| byte == 0xaa));
+            assert_eq!(read(bytes), Some((number, bytes.len())));
+        }
+        let mut out = [0xaa; 4];
+        for place in [4, 5, u64::MAX] {
+            assert_eq!(write(0, &mut out, place), Err(Refusal::OutputTooShort));
+            assert_eq!(
+                write(LARGEST + 1, &mut out, place),
+                Err(Refusal::NumberTooLarge)
+            );
         }
     }
 

@@ -353,13 +353,4 @@ fn refusals() {
         assert_eq!(refused, Err(Refusal::Finished));
     }
     assert_eq!(Reader { limit: 0, ..reader }, before);
-
-    let numbers = [
-        Refusal::Finished,
-        Refusal::LimitTooLarge,
-        Refusal::GatheringBufferTooShort,
-        Refusal::OutputTooShort,
-    ]
-    .map(Refusal::number);
-    assert_eq!(numbers, [2, 3, 4, 5]);
 }

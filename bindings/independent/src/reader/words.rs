@@ -1,0 +1,148 @@
+//! A reader as eight words, the form in which the C interface keeps one.
+//!
+//! Role, datagram limit, draft setting, phase, three words that go by the phase, finished. In the type: how many bytes
+//! have come, their big-endian number, 0. In the length: the type, how many bytes have come, their number. In the
+//! value: the type, the length, how many bytes are left.
+
+use super::{Reader, Role, State, LARGEST_LIMIT};
+use crate::varint::{Arriving, LARGEST};
+
+impl Reader {
+    /// The words of the reader.
+    pub fn words(&self) -> [u64; 8] {
+        let [phase, first, second, third] = match self.state {
+            State::Type => {
+                let (come, number) = self.arriving_type.numbers();
+                [0, come, number, 0]
+            }
+            State::Length { capsule_type } => {
+                let (come, number) = self.arriving_length.numbers();
+                [1, capsule_type, come, number]
+            }
+            State::Value {
+                capsule_type,
+                length,
+                left,
+            } => [2, capsule_type, length, left],
+        };
+        let role = match self.role {
+            Role::Endpoint => 0,
+            Role::Intermediary => 1,
+        };
+        let (draft, finished) = (u64::from(self.draft), u64::from(self.finished));
+        [
+            role, self.limit, draft, phase, first, second, third, finished,
+        ]
+    }
+
+    /// The reader with these words, or `None` if no opening, feeding and closing makes one.
+    pub fn from_words(words: [u64; 8]) -> Option<Reader> {
+        let [role, limit, draft, phase, first, second, third, finished] = words;
+        let role = match role {
+            0 => Role::Endpoint,
+            1 => Role::Intermediary,
+            _ => return None,
+        };
+        if limit > LARGEST_LIMIT || draft > 1 || finished > 1 {
+            return None;
+        }
+        let mut arriving_type = Arriving::default();
+        let mut arriving_length = Arriving::default();
+        let state = match phase {
+            0 => {
+                arriving_type = Arriving::from_numbers(first, second)?;
+                if third != 0 {
+                    return None;
+                }
+                State::Type
+            }
+            1 if first <= LARGEST => {
+                arriving_length = Arriving::from_numbers(second, third)?;
+                State::Length {
+                    capsule_type: first,
+                }
+            }
+            // A value of which nothing is left has ended.
+            2 if first <= LARGEST && second <= LARGEST && (1..=second).contains(&third) => {
+                State::Value {
+                    capsule_type: first,
+                    length: second,
+                    left: third,
+                }
+            }
+            _ => return None,
+        };
+        Some(Reader {
+            role,
+            limit,
+            draft: draft == 1,
+            finished: finished == 1,
+            state,
+            arriving_type,
+            arriving_length,
+        })
+    }
+}
+
+#[cfg(test)]
+mod tests {
+    use super::*;
+
+    #[test]
+    fn words_of_each_phase() {
+        let mut reader = Reader::new(Role::Intermediary, 5, true).unwrap();
+        assert_eq!(reader.words(), [1, 5, 1, 0, 0, 0, 0, 0]);
+        for (byte, words) in [
+            (0x40, [1, 5, 1, 0, 1, 0x40, 0, 0]),
+            (0x17, [1, 5, 1, 1, 0x17, 0, 0, 0]),
+            (0x80, [1, 5, 1, 1, 0x17, 1, 0x80, 0]),
+            (0x00, [1, 5, 1, 1, 0x17, 2, 0x8000, 0]),
+            (0x00, [1, 5, 1, 1, 0x17, 3, 0x80_0000, 0]),
+            (0x02, [1, 5, 1, 2, 0x17, 2, 2, 0]),
+            (0x99, [1, 5, 1, 2, 0x17, 2, 1, 0]),
+            (0x99, [1, 5, 1, 0, 0, 0, 0, 0]),
+        ] {
+            reader.feed(&[byte], &mut [0; 5], &mut [0; 9]).unwrap();
+            assert_eq!(reader.words(), words);
+            let again = Reader::from_words(words).unwrap();
+            assert_eq!(again.words(), words);
+        }
+        reader.close().unwrap();
+        assert_eq!(reader.words(), [1, 5, 1, 0, 0, 0, 0, 1]);
+    }
+
+    #[test]
+    fn words_of_no_reader() {
+        let large = 1 << 62;
+        for words in [
+            [2, 0, 0, 0, 0, 0, 0, 0],
+            [0, 65_536, 0, 0, 0, 0, 0, 0],
+            [0, 0, 2, 0, 0, 0, 0, 0],
+            [0, 0, 0, 3, 0, 0, 0, 0],
+            [0, 0, 0, 0, 0, 0, 0, 2],
+            // no bytes, but a number; a number too large for its bytes; a whole number; more bytes than any
+            [0, 0, 0, 0, 0, 1, 0, 0],
+            [0, 0, 0, 0, 1, 256, 0, 0],
+            [0, 0, 0, 0, 1, 0x3f, 0, 0],
+            [0, 0, 0, 0, 2, 0x4000, 0, 0],
+            [0, 0, 0, 0, 8, 0xc000_0000_0000_0000, 0, 0],
+            [0, 0, 0, 0, 256, 0, 0, 0],
+            [0, 0, 0, 0, 0, 0, 1, 0],
+            [0, 0, 0, 1, large, 0, 0, 0],
+            [0, 0, 0, 1, 0, 1, 0, 0],
+            [0, 0, 0, 2, large, 1, 1, 0],
+            [0, 0, 0, 2, 0, large, 1, 0],
+            [0, 0, 0, 2, 0, 1, 0, 0],
+            [0, 0, 0, 2, 0, 1, 2, 0],
+        ] {
+            assert_eq!(Reader::from_words(words), None, "{words:?}");
+        }
+        for words in [
+            [1, 65_535, 1, 0, 7, 0xff_ffff_ffff_ffff, 0, 1],
+            [0, 0, 0, 1, large - 1, 3, 0x80_0000, 0],
+            [0, 0, 0, 2, large - 1, large - 1, 1, 0],
+        ] {
+            assert!(Reader::from_words(words).is_some(), "{words:?}");
+        }
+    }
+}
