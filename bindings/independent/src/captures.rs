@@ -9,8 +9,8 @@ mod streams;
 #[cfg(test)]
 mod tests;
 
-pub use streams::{capsule_type, long_stream, number_of_any_size, push_number, Form};
-use streams::{push_filler, stream};
+use streams::push_filler;
+pub use streams::{capsule_type, long_stream, number_of_any_size, push_number, stream, Form};
 
 /// What a capture is meant to try.
 #[derive(Clone, Copy, Debug, PartialEq, Eq, Hash)]

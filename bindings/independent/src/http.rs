@@ -109,7 +109,7 @@ pub fn request_malformed(fields: Fields) -> bool {
 
 /// Whether a response that uses capsules is malformed.
 pub fn response_malformed(status: u64, fields: Fields) -> bool {
-    matches!(status, 204 | 205 | 206) || fields.any()
+    (204..=206).contains(&status) || fields.any()
 }
 
 /// Whether the Capsule-Protocol field counts on a request (no status) or a response.

@@ -107,8 +107,9 @@ impl<'a> Table<'a> {
 
 /// The quarter of a request stream: a quarter of an ID that is divisible by 4 and can be encoded.
 pub fn quarter_of(id: u64) -> Result<u64, Refusal> {
-    if id % 4 == 0 && id / 4 <= LARGEST_QUARTER {
-        Ok(id / 4)
+    let quarter = id / 4;
+    if quarter * 4 == id && quarter <= LARGEST_QUARTER {
+        Ok(quarter)
     } else {
         Err(Refusal::NotARequestStream)
     }

@@ -114,7 +114,8 @@ fn small_capsules(random: &mut Random, form: Form, count: usize) -> Vec<u8> {
     stream
 }
 
-pub(super) fn stream(random: &mut Random, kind: Kind) -> Vec<u8> {
+/// A stream of a kind.
+pub fn stream(random: &mut Random, kind: Kind) -> Vec<u8> {
     match kind {
         Kind::Empty | Kind::Written => Vec::new(),
         Kind::Shortest => {
