@@ -1,6 +1,8 @@
-.PHONY: run test
+.PHONY: run test lib install fuzz bench
 
 FILE ?= samples/s.capture
+PREFIX ?= /usr/local
+SECONDS ?= 300
 
 # Lists a capture: the sample, or one of yours with make run FILE=path.
 run:
@@ -9,6 +11,23 @@ run:
 	@rt check list_capsules > build/run.log 2>&1 || { cat build/run.log; exit 1; }
 	@target/bin/list_capsules "$(FILE)"
 
-# Everything: the proofs, the edits that must be refused, the programs, and the comparison with the independent reader.
+# Everything: the proofs, the edits that must be refused, the programs, the C example, and the comparison of the listing
+# and of all calls with the independent implementation.
 test:
 	@bash tests/run
+
+# What a host links: build/lib/libmaruzhenu.a, build/include/maruzhenu.h, build/lib/pkgconfig/maruzhenu.pc.
+lib:
+	@bash tools/lib
+
+# Copies these to PREFIX/lib, PREFIX/include and PREFIX/lib/pkgconfig.
+install: lib
+	@bash tools/install "$(PREFIX)"
+
+# Compares the calls on bytes that a fuzzer chooses, for so many SECONDS. No part of make test.
+fuzz: lib
+	@bash fuzz/run "$(SECONDS)"
+
+# Measures, and writes build/bench.md and build/bench.svg. No part of make test.
+bench: lib
+	@bash bench/calls

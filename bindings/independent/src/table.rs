@@ -63,13 +63,18 @@ impl<'a> Table<'a> {
         }
         let mut seen = [0; MOST_RECORDS];
         let mut count = 0;
+        // A bit for each remainder that has come: of most quarters it shows that they are new.
+        let mut remainders = 0u64;
         for (&quarter, &mark) in quarters.iter().zip(marks) {
             match record(quarter, mark) {
                 Some(stream) => {
                     let open = stream.receive_open || stream.send_open;
-                    if quarter > LARGEST_QUARTER || !open || seen[..count].contains(&quarter) {
+                    let bit = 1 << (quarter % 64);
+                    let twice = remainders & bit != 0 && seen[..count].contains(&quarter);
+                    if quarter > LARGEST_QUARTER || !open || twice {
                         return Err(Refusal::BadTable);
                     }
+                    remainders |= bit;
                     seen[count] = quarter;
                     count += 1;
                 }

@@ -1,0 +1,26 @@
+//! Links the peers that bench/calls could build: each variable names the folder of one.
+
+use std::env;
+
+fn main() {
+    for (variable, library, kind, cfg) in [
+        ("NGHTTP3_PEER", "nghttp3_peer", "static", "nghttp3"),
+        ("QUINN_PEER", "quinn_peer", "dylib", "quinn"),
+    ] {
+        println!("cargo:rerun-if-env-changed={variable}");
+        println!("cargo:rustc-check-cfg=cfg({cfg})");
+        if let Ok(folder) = env::var(variable) {
+            println!("cargo:rustc-link-search=native={folder}");
+            println!("cargo:rustc-link-lib={kind}={library}");
+            if kind == "dylib" {
+                println!("cargo:rustc-link-arg=-Wl,-rpath,{folder}");
+            }
+            println!("cargo:rustc-cfg={cfg}");
+        }
+    }
+    if env::var("NGHTTP3_PEER").is_ok() {
+        println!("cargo:rustc-link-lib=static=nghttp3");
+        let folder = env::var("NGHTTP3_LIBDIR").expect("bench/calls sets both variables");
+        println!("cargo:rustc-link-search=native={folder}");
+    }
+}

@@ -1,0 +1,135 @@
+//! Measures the verified library beside plain Rust and other libraries, and prints a table. With a file named, it also
+//! draws nanoseconds per byte over the length of values.
+
+mod calls;
+mod feeding;
+mod measure;
+mod plot;
+mod varints;
+
+use std::env;
+use std::fs;
+use std::process::ExitCode;
+
+use feeding::Role;
+
+/// A row of the table.
+pub struct Row {
+    pub work: String,
+    pub peer: &'static str,
+    /// Nanoseconds and what they are for.
+    pub ours: f64,
+    pub theirs: f64,
+    pub unit: &'static str,
+    /// The largest ratio that is aimed at.
+    pub aim: f64,
+}
+
+impl Row {
+    fn print(&self) {
+        let ratio = self.ours / self.theirs;
+        let met = if ratio <= self.aim { "met" } else { "missed" };
+        println!(
+            "| {} | {} | {:.2} | {:.2} | {} | {ratio:.2} | {:.2} | {met} |",
+            self.work, self.peer, self.ours, self.theirs, self.unit, self.aim
+        );
+    }
+}
+
+fn head() {
+    println!("| Work | Beside | Ours, ns | Other, ns | for | Ratio | Aim | |");
+    println!("|---|---|---|---|---|---|---|---|");
+}
+
+fn feeding() {
+    head();
+    for (role, name) in [
+        (Role::Endpoint, "endpoint, DATAGRAM delivered"),
+        (Role::Intermediary, "intermediary, unknown capsule passed"),
+    ] {
+        for piece in [64, 1_200, 16_384] {
+            for length in [0, 4, 32, 100, 1_000, 1_200, 16_000] {
+                let ([ours, theirs, _], bytes) = feeding::measure(role, length, piece);
+                let kib = bytes as f64 / 1_024.0;
+                Row {
+                    work: format!("{name}: values of {length}, pieces of {piece}"),
+                    peer: "independent Rust reader",
+                    ours: ours / kib,
+                    theirs: theirs / kib,
+                    unit: "KiB of stream",
+                    aim: 1.0,
+                }
+                .print();
+            }
+        }
+    }
+    for (role, name) in [
+        (Role::Endpoint, "endpoint"),
+        (Role::Intermediary, "intermediary"),
+    ] {
+        let [ours, theirs] = feeding::against_copy(role, 16_000, 16_384);
+        Row {
+            work: format!("{name}: values of 16000, pieces of 16384"),
+            peer: "bare copy of the same bytes",
+            ours: ours / 1_000.0,
+            theirs: theirs / 1_000.0,
+            unit: "128 KiB, in thousands",
+            aim: 1.15,
+        }
+        .print();
+    }
+    println!();
+}
+
+fn rows(title: &str, rows: Vec<Row>) {
+    println!("## {title}\n");
+    head();
+    for row in rows {
+        row.print();
+    }
+    println!();
+}
+
+fn plot(path: &str) -> std::io::Result<()> {
+    let lengths: Vec<usize> = (0..=14).map(|power| 1 << power).collect();
+    let mut lines = vec![
+        plot::Line::new("verified, endpoint", "#c0392b", false),
+        plot::Line::new("independent, endpoint", "#2874a6", false),
+        plot::Line::new("verified, intermediary", "#c0392b", true),
+        plot::Line::new("independent, intermediary", "#2874a6", true),
+        plot::Line::new("bare copy of the values", "#555555", false),
+    ];
+    for &length in &lengths {
+        for (first, role) in [(0, Role::Endpoint), (2, Role::Intermediary)] {
+            let (times, bytes) = feeding::measure(role, length, 16_384);
+            let per_byte = times.map(|time| time / bytes as f64);
+            lines[first].points.push((length as f64, per_byte[0]));
+            lines[first + 1].points.push((length as f64, per_byte[1]));
+            if role == Role::Endpoint {
+                lines[4].points.push((length as f64, per_byte[2]));
+            }
+        }
+    }
+    let title = "Reading a stream of equal capsules, pieces of 16,384 bytes";
+    fs::write(path, plot::draw(title, &lines))
+}
+
+fn main() -> ExitCode {
+    let arguments: Vec<String> = env::args().skip(1).collect();
+    if arguments.len() > 1 {
+        eprintln!("usage: bench [PLOT.svg]");
+        return ExitCode::from(2);
+    }
+    println!("Each figure is the least of 21 rounds in which both sides have their turn. Buffers are not cleared between passes.\n");
+    println!("## Feeding\n");
+    feeding();
+    rows("Reading varints", varints::rows());
+    rows("Judging, writing", calls::rows());
+    if let Some(path) = arguments.first() {
+        if let Err(error) = plot(path) {
+            eprintln!("bench: {path}: {error}");
+            return ExitCode::FAILURE;
+        }
+    }
+    ExitCode::SUCCESS
+}

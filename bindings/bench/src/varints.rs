@@ -1,0 +1,96 @@
+//! Varints, read end to end from a buffer.
+
+use independent::captures::{push_number, Form};
+use independent::Random;
+
+use crate::measure::{race, Work};
+use crate::Row;
+
+const COUNT: usize = 10_000;
+
+/// A buffer of numbers, each below a bound of the list.
+fn buffer(bounds: &[u64]) -> Vec<u8> {
+    let mut random = Random::new(16);
+    let mut bytes = Vec::new();
+    for _ in 0..COUNT {
+        let bound = random.one_of(bounds);
+        let number = match bound {
+            64 => random.between(0, 63),
+            _ => random.between(bound / 2, bound - 1),
+        };
+        push_number(&mut bytes, &mut random, Form::Shortest, number);
+    }
+    bytes
+}
+
+fn ours(bytes: &[u8]) -> u64 {
+    let (mut sum, mut place) = (0u64, 0);
+    while let Some((value, size)) = maruzhenu::varint::read(&bytes[place..]) {
+        sum = sum.wrapping_add(value);
+        place += size;
+    }
+    sum
+}
+
+fn plain(bytes: &[u8]) -> u64 {
+    let (mut sum, mut place) = (0u64, 0);
+    while let Some((value, size)) = independent::varint::read(&bytes[place..]) {
+        sum = sum.wrapping_add(value);
+        place += size;
+    }
+    sum
+}
+
+#[cfg(nghttp3)]
+fn nghttp3(bytes: &[u8]) -> u64 {
+    extern "C" {
+        fn nghttp3_peer_sum(bytes: *const u8, length: usize) -> u64;
+    }
+    unsafe { nghttp3_peer_sum(bytes.as_ptr(), bytes.len()) }
+}
+
+#[cfg(quinn)]
+fn quinn(bytes: &[u8]) -> u64 {
+    extern "C" {
+        fn quinn_peer_sum(bytes: *const u8, length: usize) -> u64;
+    }
+    unsafe { quinn_peer_sum(bytes.as_ptr(), bytes.len()) }
+}
+
+/// A reader of all numbers of a buffer, with its name and the ratio aimed at.
+type Peer = (&'static str, fn(&[u8]) -> u64, f64);
+
+pub fn rows() -> Vec<Row> {
+    let peers: &[Peer] = &[
+        ("independent, plain Rust, inlined", plain, f64::INFINITY),
+        #[cfg(nghttp3)]
+        ("nghttp3", nghttp3, 0.8),
+        #[cfg(quinn)]
+        ("quinn-proto", quinn, 0.8),
+    ];
+    let mut rows = Vec::new();
+    for (name, bounds) in [
+        ("one byte", &[64][..]),
+        ("two bytes", &[16_384]),
+        (
+            "a random mix of the four sizes",
+            &[64, 16_384, 1 << 30, 1 << 62],
+        ),
+    ] {
+        let bytes = &buffer(bounds)[..];
+        for &(peer, theirs, aim) in peers {
+            let ours: Work = Box::new(|| ours(bytes));
+            let theirs: Work = Box::new(|| theirs(bytes));
+            let times = race(true, &mut [ours, theirs]);
+            rows.push(Row {
+                work: format!("varints of {name}"),
+                peer,
+                ours: times[0] / COUNT as f64,
+                theirs: times[1] / COUNT as f64,
+                unit: "varint",
+                aim,
+            });
+        }
+    }
+    rows
+}
