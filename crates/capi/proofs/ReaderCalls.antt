@@ -1,0 +1,48 @@
+-- What the calls on a reader in words come to. Assumes nothing.
+use Prim.Native.Nat.{ℕ}
+use mathlib.Core.Path.{_≡_, sym, ap, _∙_}
+use mathlib.Core.List.{List}
+use Rattle.refusals.specs.declared.Refusal.{Refusal}
+use Rattle.refusals.specs.Numbers.{unmakeableState}
+use Rattle.capsule.specs.declared.reader.Reader.{Reader}
+use Rattle.capsule.specs.declared.reader.Ended.{Ended}
+use Rattle.capsule.specs.declared.reader.Closed.{Closed}
+use Rattle.capsule.specs.declared.reader.FeedAnswer.{FeedAnswer}
+use Rattle.capsule.specs.declared.reader.FeedAnswer.the-variants as fedAs
+use Rattle.capsule.specs.declared.reader.CloseAnswer.{CloseAnswer}
+use Rattle.capsule.specs.declared.reader.CloseAnswer.the-variants as closedAs
+use Rattle.capsule.specs.Calls.{Lent}
+use Rattle.capsule.specs.Reader.{feeding, feedOf, closeOf}
+use Rattle.capi.specs.declared.words.Loaded.the-variants.{Nothing, Is}
+use Rattle.capi.specs.declared.reader.FedAnswer.{FedAnswer}
+use Rattle.capi.specs.declared.reader.ClosedAnswer.{ClosedAnswer}
+use Rattle.capi.specs.Words.{wordsOf, readerIn}
+use Rattle.capi.specs.Reader.{fedRefused, fedTook, fedAnswer, wordsFed, fed, fedBy, feedLoaded, feedWords, closedAnswer, wordsClosed, closed, closedBy, closeLoaded, closeWords}
+
+module _ (ws p : List ℕ) (b : Lent) where
+  pub feed-nothing : (a : FedAnswer) → readerIn ws ≡ Nothing → a ≡ fedRefused unmakeableState → fed a ws b ≡ feedWords ws p b
+  unfolding feedWords feedLoaded
+  feed-nothing a e said = rw (e, said)
+
+  module _ (r r′ : Reader) (x : FeedAnswer) (b′ : Lent) (a : FedAnswer) (loads : readerIn ws ≡ Is r) (feeds : feeding r′ x b′ ≡ feedOf r p b) where
+    feed-by : (ws′ : List ℕ) → a ≡ fedAnswer x → ws′ ≡ wordsFed ws r′ x → fed a ws′ b′ ≡ feedWords ws p b
+    unfolding feedWords feedLoaded fedBy
+    feed-by ws′ said kept = rw (said, kept) (ap (fedBy ws) feeds ∙ sym (ap (feedLoaded ws p b) loads))
+
+    pub feed-kept : (why : Refusal) → x ≡ fedAs.Refused why → a ≡ fedRefused why → fed a ws b′ ≡ feedWords ws p b
+    unfolding fedAnswer wordsFed
+    feed-kept why is said = feed-by ws (rw is said) (rw is)
+
+    pub feed-stored : (ws′ : List ℕ) (consumed written : ℕ) (ended : Ended) → x ≡ fedAs.Took consumed written ended → a ≡ fedTook consumed written ended → ws′ ≡ wordsOf r′ → fed a ws′ b′ ≡ feedWords ws p b
+    unfolding fedAnswer wordsFed
+    feed-stored ws′ consumed written ended is said stored = feed-by ws′ (rw is said) (rw is stored)
+
+module _ (ws : List ℕ) where
+  pub close-nothing : (a : ClosedAnswer) → readerIn ws ≡ Nothing → a ≡ closedAnswer (closedAs.Refused unmakeableState) → closed a ws ≡ closeWords ws
+  unfolding closeWords closeLoaded
+  close-nothing a e said = rw (e, said)
+
+  module _ (r : Reader) (d : Closed) (a : ClosedAnswer) (loads : readerIn ws ≡ Is r) (closes : d ≡ closeOf r) (said : a ≡ closedAnswer (d .answer)) (v : CloseAnswer) (is : d .answer ≡ v) where
+    pub close-by : (ws′ : List ℕ) → ws′ ≡ wordsClosed ws (d .reader) v → closed a ws′ ≡ closeWords ws
+    unfolding closeWords closeLoaded closedBy
+    close-by ws′ kept = rw (said, kept, ← is) (ap (closedBy ws) closes ∙ sym (ap (closeLoaded ws) loads))

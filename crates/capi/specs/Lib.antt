@@ -1,0 +1,9 @@
+pub mod Numbers
+pub mod Varint
+pub mod Words
+pub mod Reader
+pub mod OneShot
+pub mod Table
+pub mod Frames
+pub mod Messages
+pub mod Claims

@@ -1,0 +1,56 @@
+-- A reader in eight words: the role, the datagram limit, the draft setting, the phase's number and three words of it, whether it is finished.
+use Prim.Native.Nat.{ℕ}
+use mathlib.Core.Bool.{cond, _&&_}
+use mathlib.Core.List.{List, [], _∷_, _++_}
+use lib.ListN.{getD}
+use lib.Dec.{leb, eqb}
+use Rattle.wire.specs.Partial.{partial}
+use Rattle.capsule.specs.declared.opening.Role.{Role}
+use Rattle.capsule.specs.declared.opening.Role.the-variants.{Endpoint, Intermediary}
+use Rattle.capsule.specs.declared.reader.Phase.{Phase}
+use Rattle.capsule.specs.declared.reader.Phase.the-variants.{InType, InLength, InValue}
+use Rattle.capsule.specs.declared.reader.Reader.{Reader}
+use Rattle.capsule.specs.Reader.{opening}
+use Rattle.capi.specs.declared.words.LoadedPhase.{LoadedPhase}
+use Rattle.capi.specs.declared.words.LoadedPhase.the-variants as phase
+use Rattle.capi.specs.declared.words.Loaded.{Loaded}
+use Rattle.capi.specs.declared.words.Loaded.the-variants as loaded
+use Rattle.capi.specs.Numbers.{flagOf, roleOf, bitOf}
+
+-- ---- the stored form
+
+unfoldable pub roleNumber : Role → ℕ
+roleNumber Endpoint = 0
+roleNumber Intermediary = 1
+
+unfoldable pub phaseWords : Phase → List ℕ
+phaseWords (InType part) = 0 ∷ part .have ∷ part .raw ∷ 0 ∷ []
+phaseWords (InLength t part) = 1 ∷ t ∷ part .have ∷ part .raw ∷ []
+phaseWords (InValue t n left) = 2 ∷ t ∷ n ∷ left ∷ []
+
+unfoldable pub wordsOf : Reader → List ℕ
+wordsOf r =
+    roleNumber (r .opening .role) ∷ r .opening .limit ∷ bitOf (r .opening .draft) ∷ (phaseWords (r .phase) ++ (bitOf (r .finished) ∷ []))
+
+-- ---- reading it back (see the claims `StoredRead` and `ReadAsStored`)
+
+-- `have` is a byte, and the word that is not used in a type is 0
+unfoldable pub phaseIn : ℕ → ℕ → ℕ → ℕ → LoadedPhase
+phaseIn kind a b c =
+    cond (eqb kind 0)
+    (cond (leb a 255 && eqb c 0) (phase.Is (InType (partial a b))) phase.Nothing)
+    (cond (eqb kind 1)
+    (cond (leb b 255) (phase.Is (InLength a (partial b c))) phase.Nothing)
+    (cond (eqb kind 2) (phase.Is (InValue a b c)) phase.Nothing))
+
+unfoldable pub withPhase : ℕ → ℕ → ℕ → ℕ → LoadedPhase → Loaded
+withPhase role limit draft finished phase.Nothing = loaded.Nothing
+withPhase role limit draft finished (phase.Is p) =
+    loaded.Is (record { opening = opening (roleOf role) limit (flagOf draft); phase = p; finished = flagOf finished })
+
+-- role, draft setting and finished are 0 or 1
+unfoldable pub readerIn : List ℕ → Loaded
+readerIn ws =
+    cond (leb (getD ws 0 0) 1 && (leb (getD ws 2 0) 1 && leb (getD ws 7 0) 1))
+    (withPhase (getD ws 0 0) (getD ws 1 0) (getD ws 2 0) (getD ws 7 0) (phaseIn (getD ws 3 0) (getD ws 4 0) (getD ws 5 0) (getD ws 6 0)))
+    loaded.Nothing

@@ -1,0 +1,9 @@
+// What a host calls from C: the functions that include/maruzhenu.h declares.
+mod frames;
+mod messages;
+mod numbers;
+mod one_shot;
+mod reader;
+mod table;
+mod varint;
+mod words;

@@ -1,0 +1,198 @@
+// The capsule reader, kept in the host's words.
+ghost use mathlib.Core.Path.{_≡_};
+ghost use Rattle.capsule.specs.Calls.{lent};
+ghost use Rattle.capi.specs.Reader.{opened, openWords, fedRefused, fedReport, fedTook, fed, feedWords, closedAnswer, closed, closeWords};
+use crate::numbers::error_number;
+use crate::numbers::flag_of;
+use crate::numbers::refusal_number;
+use crate::numbers::role_of;
+use crate::words::Loaded;
+use crate::words::load;
+use crate::words::store;
+use capsule::opening::Report;
+use capsule::reader::CloseAnswer;
+use capsule::reader::Ended;
+use capsule::reader::FeedAnswer;
+use capsule::reader::Opened;
+use capsule::reader::Reader;
+use http::ties::close_error;
+use refusals::Refusal;
+
+// report: 0 no capsule ended, 1 delivered, 2 dropped, 3 skipped, 4 passed
+#[repr(C)]
+pub struct FedAnswer {
+    pub refusal: u64,
+    pub consumed: u64,
+    pub written: u64,
+    pub report: u64,
+    pub ctype: u64,
+    pub length: u64,
+}
+
+// end: 1 clean, 2 truncated
+#[repr(C)]
+pub struct ClosedAnswer {
+    pub refusal: u64,
+    pub end: u64,
+    pub error: u64,
+}
+
+// The refusal's number, or 0.
+#[no_mangle]
+pub extern "C" fn mrz_reader_open(words: &mut [u64; 8], role: u64, limit: u64, draft: u64) -> u64
+    ensures { λ r. ⌜ opened r (now (words .exit)) ≡ openWords (now (words .entry)) role limit draft ⌝ }
+{
+    match Reader::open(role_of(role), limit, flag_of(draft)) {
+        Opened::Refused(why) => refusal_number(why),
+        Opened::Ready(reader) => {
+            store(words, reader);
+            0
+        }
+    }
+}
+
+fn feed_refused(why: Refusal) -> FedAnswer
+    ensures { λ r. ⌜ r ≡ fedRefused why ⌝ }
+{
+    FedAnswer {
+        refusal: refusal_number(why),
+        consumed: 0,
+        written: 0,
+        report: 0,
+        ctype: 0,
+        length: 0,
+    }
+}
+
+fn fed_report(consumed: usize, written: usize, report: Report) -> FedAnswer
+    ensures { λ r. ⌜ r ≡ fedReport consumed written report ⌝ }
+{
+    match report {
+        Report::Delivered(length) => FedAnswer {
+            refusal: 0,
+            consumed: consumed as u64,
+            written: written as u64,
+            report: 1,
+            ctype: 0,
+            length: length,
+        },
+        Report::Dropped(length) => FedAnswer {
+            refusal: 0,
+            consumed: consumed as u64,
+            written: written as u64,
+            report: 2,
+            ctype: 0,
+            length: length,
+        },
+        Report::Skipped(ctype, length) => FedAnswer {
+            refusal: 0,
+            consumed: consumed as u64,
+            written: written as u64,
+            report: 3,
+            ctype: ctype,
+            length: length,
+        },
+        Report::Passed(ctype, length) => FedAnswer {
+            refusal: 0,
+            consumed: consumed as u64,
+            written: written as u64,
+            report: 4,
+            ctype: ctype,
+            length: length,
+        },
+    }
+}
+
+fn fed_took(consumed: usize, written: usize, ended: Ended) -> FedAnswer
+    ensures { λ r. ⌜ r ≡ fedTook consumed written ended ⌝ }
+{
+    match ended {
+        Ended::Nothing => FedAnswer {
+            refusal: 0,
+            consumed: consumed as u64,
+            written: written as u64,
+            report: 0,
+            ctype: 0,
+            length: 0,
+        },
+        Ended::Capsule(report) => fed_report(consumed, written, report),
+    }
+}
+
+#[no_mangle]
+pub extern "C" fn mrz_reader_feed(
+    words: &mut [u64; 8],
+    piece: &[u8],
+    gathering: &mut [u8],
+    output: &mut [u8],
+) -> FedAnswer
+    ensures { λ r. ⌜ fed r (now (words .exit)) (lent (now (gathering .exit)) (now (output .exit))) ≡ feedWords (now (words .entry)) (now (piece .entry)) (lent (now (gathering .entry)) (now (output .entry))) ⌝ }
+{
+    match load(words) {
+        Loaded::Nothing => feed_refused(Refusal::UNMAKEABLE_STATE),
+        Loaded::Is(reader) => {
+            let fed = reader.feed(piece, gathering, output);
+            let answer = fed.answer;
+            match answer {
+                FeedAnswer::Refused(why) => feed_refused(why),
+                FeedAnswer::Took {
+                    consumed,
+                    written,
+                    ended,
+                } => {
+                    let next = fed.reader;
+                    store(words, next);
+                    fed_took(consumed, written, ended)
+                }
+            }
+        }
+    }
+}
+
+fn closed_answer(answer: CloseAnswer) -> ClosedAnswer
+    ensures { λ r. ⌜ r ≡ closedAnswer answer ⌝ }
+{
+    match answer {
+        CloseAnswer::Refused(why) => ClosedAnswer {
+            refusal: refusal_number(why),
+            end: 0,
+            error: error_number(close_error(answer)),
+        },
+        CloseAnswer::Clean => ClosedAnswer {
+            refusal: 0,
+            end: 1,
+            error: error_number(close_error(answer)),
+        },
+        CloseAnswer::Truncated => ClosedAnswer {
+            refusal: 0,
+            end: 2,
+            error: error_number(close_error(answer)),
+        },
+    }
+}
+
+#[no_mangle]
+pub extern "C" fn mrz_reader_close(words: &mut [u64; 8]) -> ClosedAnswer
+    ensures { λ r. ⌜ closed r (now (words .exit)) ≡ closeWords (now (words .entry)) ⌝ }
+{
+    match load(words) {
+        Loaded::Nothing => closed_answer(CloseAnswer::Refused(Refusal::UNMAKEABLE_STATE)),
+        Loaded::Is(reader) => {
+            let done = reader.close();
+            let answer = done.answer;
+            match answer {
+                CloseAnswer::Refused(_) => closed_answer(answer),
+                CloseAnswer::Clean => {
+                    let next = done.reader;
+                    store(words, next);
+                    closed_answer(answer)
+                }
+                CloseAnswer::Truncated => {
+                    let next = done.reader;
+                    store(words, next);
+                    closed_answer(answer)
+                }
+            }
+        }
+    }
+}

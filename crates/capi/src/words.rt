@@ -1,0 +1,138 @@
+// A reader kept in eight words of the host's (see specs/Words.antt).
+ghost use mathlib.Core.Path.{_≡_};
+ghost use Rattle.capi.specs.Words.{roleNumber, wordsOf, phaseIn, readerIn};
+use crate::numbers::bit_of;
+use crate::numbers::flag_of;
+use crate::numbers::role_of;
+use crate::numbers::wide;
+use capsule::opening::Opening;
+use capsule::opening::Role;
+use capsule::reader::Phase;
+use capsule::reader::Reader;
+use wire::partial::Partial;
+
+// What some words are the stored form of.
+pub enum LoadedPhase {
+    Nothing,
+    Is(Phase),
+}
+
+pub enum Loaded {
+    Nothing,
+    Is(Reader),
+}
+
+// The phase by its number and the three words behind it.
+fn load_phase(kind: u64, a: u64, b: u64, c: u64) -> LoadedPhase
+    ensures { λ r. ⌜ r ≡ phaseIn kind a b c ⌝ }
+{
+    if kind == 0 {
+        if a > 255 {
+            return LoadedPhase::Nothing;
+        }
+        if c != 0 {
+            return LoadedPhase::Nothing;
+        }
+        return LoadedPhase::Is(Phase::InType(Partial {
+            have: a as u8,
+            raw: b,
+        }));
+    }
+    if kind == 1 {
+        if b > 255 {
+            return LoadedPhase::Nothing;
+        }
+        return LoadedPhase::Is(Phase::InLength(
+            a,
+            Partial {
+                have: b as u8,
+                raw: c,
+            },
+        ));
+    }
+    if kind == 2 {
+        return LoadedPhase::Is(Phase::InValue(a, b, c));
+    }
+    LoadedPhase::Nothing
+}
+
+pub(crate) fn load(words: &[u64; 8]) -> Loaded
+    ensures { λ r. ⌜ r ≡ readerIn (now (words .entry)) ⌝ }
+{
+    if words[0] > 1 {
+        return Loaded::Nothing;
+    }
+    if words[2] > 1 {
+        return Loaded::Nothing;
+    }
+    if words[7] > 1 {
+        return Loaded::Nothing;
+    }
+    match load_phase(words[3], words[4], words[5], words[6]) {
+        LoadedPhase::Nothing => Loaded::Nothing,
+        LoadedPhase::Is(phase) => {
+            let opening = Opening {
+                role: role_of(words[0]),
+                limit: words[1],
+                draft: flag_of(words[2]),
+            };
+            Loaded::Is(Reader {
+                opening: opening,
+                phase: phase,
+                finished: flag_of(words[7]),
+            })
+        }
+    }
+}
+
+fn role_number(role: Role) -> u64
+    ensures { λ r. ⌜ r ≡ roleNumber role ⌝ }
+{
+    match role {
+        Role::Endpoint => 0,
+        Role::Intermediary => 1,
+    }
+}
+
+fn words_of(reader: Reader) -> [u64; 8]
+    ensures { λ r. ⌜ r ≡ wordsOf reader ⌝ }
+{
+    let opening = reader.opening;
+    let kind = opening.role;
+    let role = role_number(kind);
+    let limit = opening.limit;
+    let draft = bit_of(opening.draft);
+    let finished = bit_of(reader.finished);
+    let phase = reader.phase;
+    match phase {
+        Phase::InType(part) => [
+            role,
+            limit,
+            draft,
+            0,
+            wide(part.have),
+            part.raw,
+            0,
+            finished,
+        ],
+        Phase::InLength(ctype, part) => [
+            role,
+            limit,
+            draft,
+            1,
+            ctype,
+            wide(part.have),
+            part.raw,
+            finished,
+        ],
+        Phase::InValue(ctype, length, left) => {
+            [role, limit, draft, 2, ctype, length, left, finished]
+        }
+    }
+}
+
+pub(crate) fn store(words: &mut [u64; 8], reader: Reader)
+    ensures { λ _. ⌜ now (words .exit) ≡ wordsOf reader ⌝ }
+{
+    *words = words_of(reader);
+}
