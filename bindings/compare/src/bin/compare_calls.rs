@@ -20,7 +20,7 @@ struct Options {
 
 fn options(mut arguments: impl Iterator<Item = String>) -> Option<Options> {
     let mut options = Options {
-        calls: 1_500_000,
+        calls: 12_000_000,
         seed: None,
         case: None,
     };
