@@ -23,8 +23,6 @@ enum {
     GUARD = 64           /* bytes around a gathering buffer that nobody may touch */
 };
 
-#define ENDPOINT 0
-#define INTERMEDIARY 1
 #define LARGEST UINT64_C(0x3fffffffffffffff) /* 2^62-1 */
 
 static uint64_t random_state = 1;
@@ -149,7 +147,7 @@ static void check_guards(const struct host *host) {
     }
 }
 
-static uint8_t output[LONGEST_PIECE + 8];
+static uint8_t output[LONGEST_PIECE + MRZ_OUTPUT_HEADROOM];
 
 /* One call with the next piece of the stream. */
 static mrz_fed feed(struct host *host, const struct stream *stream) {
@@ -163,7 +161,7 @@ static mrz_fed feed(struct host *host, const struct stream *stream) {
         length = left;
     }
     fed = mrz_reader_feed(host->words, stream->bytes + host->fed, length, host->gathering, LIMIT,
-                          output, length + 8);
+                          output, length + MRZ_OUTPUT_HEADROOM);
     expect("feeding", 0, fed.refusal);
     if (fed.consumed > length || (length > 0 && fed.consumed == 0)) {
         fail("consumed bytes", length, fed.consumed);
@@ -180,9 +178,9 @@ static void feed_good(struct host *host, const struct stream *stream, unsigned r
     const mrz_fed fed = feed(host, stream);
     size_t i;
     switch (fed.report) {
-    case 0:
+    case MRZ_REPORT_NONE:
         break;
-    case 1:
+    case MRZ_REPORT_DELIVERED:
         expect("the length of a datagram", payload_length(round, host->delivered), fed.length);
         for (i = 0; i < fed.length; i++) {
             expect("a byte of a datagram", payload_byte(round, host->delivered, i),
@@ -190,11 +188,11 @@ static void feed_good(struct host *host, const struct stream *stream, unsigned r
         }
         host->delivered++;
         break;
-    case 3:
+    case MRZ_REPORT_SKIPPED:
         host->other++;
         break;
     default:
-        fail("the report on the good stream", 1, fed.report);
+        fail("the report on the good stream", MRZ_REPORT_NONE, fed.report);
     }
     check_guards(host);
 }
@@ -203,7 +201,7 @@ static void feed_good(struct host *host, const struct stream *stream, unsigned r
 static void feed_bad(struct host *host, const struct stream *stream) {
     const mrz_fed fed = feed(host, stream);
     size_t i;
-    expect("the report on the stream that lies", 0, fed.report);
+    expect("the report on the stream that lies", MRZ_REPORT_NONE, fed.report);
     for (i = 0; i < LIMIT; i++) {
         expect("a byte of the gathering buffer of the stream that lies", 0x5a, host->gathering[i]);
     }
@@ -220,7 +218,7 @@ static void one_round(unsigned round, uint64_t role, uint64_t type, uint64_t fal
 
     make_good_stream(&good_stream, round);
     make_bad_stream(&bad_stream, type, false_length);
-    open_host(good, ENDPOINT);
+    open_host(good, MRZ_ROLE_ENDPOINT);
     open_host(bad, role);
     while (good->fed < good_stream.length || bad->fed < bad_stream.length) {
         if (random_below(2) == 0) {
@@ -234,17 +232,18 @@ static void one_round(unsigned round, uint64_t role, uint64_t type, uint64_t fal
     expect("other capsules of the good stream", (DATAGRAMS + 2) / 3, good->other);
     expect("forwarded bytes of the good stream", 0, good->forwarded);
     expect("forwarded bytes of the stream that lies",
-           role == INTERMEDIARY && type != 0 ? bad_stream.length : 0, bad->forwarded);
+           role == MRZ_ROLE_INTERMEDIARY && type != 0 ? bad_stream.length : 0, bad->forwarded);
 
     closed = mrz_reader_close(good->words);
     expect("closing the good reader", 0, closed.refusal);
-    expect("the end of the good stream", 1, closed.end);
+    expect("the end of the good stream", MRZ_END_CLEAN, closed.end);
     closed = mrz_reader_close(bad->words);
     expect("closing the other reader", 0, closed.refusal);
-    expect("the end of the stream that lies", 2, closed.end);
-    expect("its error", 1, closed.error);
-    fed = mrz_reader_feed(bad->words, bad_stream.bytes, 1, bad->gathering, LIMIT, output, sizeof output);
-    expect("feeding after the close", 2, fed.refusal);
+    expect("the end of the stream that lies", MRZ_END_TRUNCATED, closed.end);
+    expect("its error", MRZ_ERROR_TRUNCATED, closed.error);
+    fed = mrz_reader_feed(bad->words, bad_stream.bytes, 1, bad->gathering, LIMIT, output,
+                          sizeof output);
+    expect("feeding after the close", MRZ_REFUSAL_FINISHED, fed.refusal);
 }
 
 static void false_lengths(const char *what, uint64_t role, uint64_t type, uint64_t false_length) {
@@ -258,12 +257,18 @@ static void false_lengths(const char *what, uint64_t role, uint64_t type, uint64
 
 int main(void) {
     static const uint64_t lengths[] = {LARGEST, LARGEST - 1, LARGEST / 2 + 1, UINT64_C(1) << 32, 65536};
+    uint64_t words[MRZ_READER_WORDS];
     size_t i;
+    /* A null pointer with length 0 is an empty buffer. */
+    expect("opening a reader with limit 0", 0, mrz_reader_open(words, MRZ_ROLE_ENDPOINT, 0, 0));
+    expect("feeding nothing", 0, mrz_reader_feed(words, NULL, 0, NULL, 0, NULL, 0).refusal);
+    expect("reading a number from nothing", 0, mrz_read_varint(NULL, 0).size);
+    expect("listing nothing", MRZ_END_CLEAN, mrz_list(NULL, 0).end);
     for (i = 0; i < sizeof lengths / sizeof lengths[0]; i++) {
-        false_lengths("endpoint, DATAGRAM", ENDPOINT, 0, lengths[i]);
-        false_lengths("endpoint, unknown capsule", ENDPOINT, 0x17, lengths[i]);
-        false_lengths("intermediary, DATAGRAM", INTERMEDIARY, 0, lengths[i]);
-        false_lengths("intermediary, unknown capsule", INTERMEDIARY, LARGEST, lengths[i]);
+        false_lengths("endpoint, DATAGRAM", MRZ_ROLE_ENDPOINT, 0, lengths[i]);
+        false_lengths("endpoint, unknown capsule", MRZ_ROLE_ENDPOINT, 0x17, lengths[i]);
+        false_lengths("intermediary, DATAGRAM", MRZ_ROLE_INTERMEDIARY, 0, lengths[i]);
+        false_lengths("intermediary, unknown capsule", MRZ_ROLE_INTERMEDIARY, LARGEST, lengths[i]);
     }
     printf("all datagrams unaltered\n");
     return 0;

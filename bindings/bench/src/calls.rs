@@ -22,14 +22,14 @@ fn table(used: usize) -> ([u64; 64], [u8; 64]) {
 }
 
 fn row(work: String, aim: f64, ours: Work, theirs: Work) -> Row {
-    let times = race(true, &mut [ours, theirs]);
+    let times = race(&mut [ours, theirs]);
     Row {
         work,
         peer: PLAIN,
         ours: times[0],
         theirs: times[1],
         unit: "call",
-        aim,
+        aim: Some(aim),
     }
 }
 

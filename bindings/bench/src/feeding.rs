@@ -1,5 +1,7 @@
 //! Readers fed with a stream of equal capsules.
 
+use std::hint::black_box;
+
 use independent::varint;
 
 use crate::measure::{race, Work};
@@ -65,16 +67,14 @@ macro_rules! feed_all {
     }};
 }
 
-/// Nanoseconds for the whole stream: the library, the independent reader, a bare copy of the values; and the bytes of the
-/// stream. The copy goes to the buffer that the reader would fill, which stays as it is from pass to pass.
+/// Nanoseconds for the whole stream: the library, the independent reader, and a bare copy of the bytes that a reader has to
+/// move; and the bytes of the stream. Each side writes to buffers of its own, which are not cleared between passes.
 pub fn measure(role: Role, length: usize, piece: usize) -> ([f64; 3], usize) {
     let (stream, count) = stream(role, length);
     let stream = &stream[..];
     let capsule = stream.len() / count;
-    let mut gathering = vec![0; LIMIT];
-    let mut output = vec![0; piece + 8];
-    let mut other_gathering = vec![0; LIMIT];
-    let mut other_output = vec![0; piece + 8];
+    let [mut gathering, mut other_gathering] = [vec![0; LIMIT], vec![0; LIMIT]];
+    let [mut output, mut other_output] = [vec![0; piece + 8], vec![0; piece + 8]];
     let mut copy = vec![0; piece.max(LIMIT)];
     let ours: Work = Box::new(|| {
         let (gathering, output) = (&mut gathering[..], &mut output[..]);
@@ -100,64 +100,24 @@ pub fn measure(role: Role, length: usize, piece: usize) -> ([f64; 3], usize) {
             output
         )
     });
-    let times = race(true, &mut [ours, theirs]);
     let bare: Work = Box::new(|| {
+        let sum = (count * (length + 1)) as u64;
         match role {
             Role::Endpoint => {
                 for capsule in stream.chunks(capsule) {
                     let value = &capsule[capsule.len() - length..];
-                    std::hint::black_box(&mut copy)[..length].copy_from_slice(value);
+                    black_box(&mut copy)[..length].copy_from_slice(value);
                 }
+                sum
             }
             Role::Intermediary => {
                 for piece in stream.chunks(piece) {
-                    std::hint::black_box(&mut copy)[..piece.len()].copy_from_slice(piece);
+                    black_box(&mut copy)[..piece.len()].copy_from_slice(piece);
                 }
+                sum + stream.len() as u64
             }
         }
-        0
     });
-    let bare = race(false, &mut [bare]);
-    ([times[0], times[1], bare[0]], stream.len())
-}
-
-/// The library's nanoseconds for a stream of values of this length, and those of a bare copy of the same bytes, taken in
-/// turn.
-pub fn against_copy(role: Role, length: usize, piece: usize) -> [f64; 2] {
-    let (stream, count) = stream(role, length);
-    let stream = &stream[..];
-    let capsule = stream.len() / count;
-    let mut gathering = vec![0; LIMIT];
-    let mut output = vec![0; piece + 8];
-    let mut copy = vec![0; piece.max(LIMIT)];
-    let ours: Work = Box::new(|| {
-        let (gathering, output) = (&mut gathering[..], &mut output[..]);
-        feed_all!(
-            maruzhenu,
-            role,
-            maruzhenu::Reader::open,
-            stream,
-            piece,
-            gathering,
-            output
-        )
-    });
-    let bare: Work = Box::new(|| {
-        match role {
-            Role::Endpoint => {
-                for capsule in stream.chunks(capsule) {
-                    let value = &capsule[capsule.len() - length..];
-                    std::hint::black_box(&mut copy)[..length].copy_from_slice(value);
-                }
-            }
-            Role::Intermediary => {
-                for piece in stream.chunks(piece) {
-                    std::hint::black_box(&mut copy)[..piece.len()].copy_from_slice(piece);
-                }
-            }
-        }
-        0
-    });
-    let times = race(false, &mut [ours, bare]);
-    [times[0], times[1]]
+    let times = race(&mut [ours, theirs, bare]);
+    ([times[0], times[1], times[2]], stream.len())
 }

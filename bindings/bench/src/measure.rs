@@ -11,10 +11,10 @@ const ROUNDS: usize = 21;
 pub type Work<'a> = Box<dyn FnMut() -> u64 + 'a>;
 
 /// Nanoseconds that each side takes for its work once: the least of several rounds, in each of which all sides have
-/// their turn. The sides must answer the same number, unless `same` is false.
-pub fn race(same: bool, sides: &mut [Work]) -> Vec<f64> {
+/// their turn. All sides must answer the same number.
+pub fn race(sides: &mut [Work]) -> Vec<f64> {
     let answers: Vec<u64> = sides.iter_mut().map(|side| side()).collect();
-    if same && answers.iter().any(|&answer| answer != answers[0]) {
+    if answers.iter().any(|&answer| answer != answers[0]) {
         panic!("the sides do not do the same work: {answers:?}");
     }
     let repeats: Vec<u32> = sides.iter_mut().map(|side| repeats(side)).collect();

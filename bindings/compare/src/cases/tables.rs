@@ -229,7 +229,10 @@ pub fn frames(random: &mut Random, comparison: &mut Comparison) -> Outcome {
                 frame = random.bytes(length);
             }
             1 => {
-                let number = random.between(LARGEST_QUARTER, (1 << 62) - 1);
+                let number = match random.between(0, 2) {
+                    0 => random.between(LARGEST_QUARTER, (1 << 62) - 1),
+                    _ => LARGEST_QUARTER + random.between(0, 2),
+                };
                 push_number(&mut frame, random, Form::Any, number);
             }
             _ => {
