@@ -1,5 +1,6 @@
 //! Readers fed with a stream of equal capsules.
 
+use std::cell::RefCell;
 use std::hint::black_box;
 
 use independent::varint;
@@ -52,7 +53,7 @@ macro_rules! feed_all {
         for mut piece in $stream.chunks($piece) {
             while !piece.is_empty() {
                 let fed = reader
-                    .feed(piece, $gathering, $output)
+                    .feed(piece, &mut $gathering[..], &mut $output[..])
                     .expect("the buffers suffice");
                 piece = &piece[fed.consumed..];
                 sum += fed.written as u64;
@@ -67,17 +68,39 @@ macro_rules! feed_all {
     }};
 }
 
+/// What a reader has to move, call by call: from where in the stream, how many bytes, and to where in the buffer.
+fn moves(role: Role, stream: &[u8], count: usize, length: usize, piece: usize) -> Vec<[usize; 3]> {
+    let capsule = stream.len() / count;
+    let mut moves = Vec::new();
+    let mut at = 0;
+    while at < stream.len() {
+        let capsule_end = at - at % capsule + capsule;
+        let end = capsule_end.min(at - at % piece + piece).min(stream.len());
+        match role {
+            Role::Endpoint => {
+                let value = capsule_end - length;
+                let from = at.max(value);
+                if from < end {
+                    moves.push([from, end - from, from - value]);
+                }
+            }
+            Role::Intermediary => moves.push([at, end - at, 0]),
+        }
+        at = end;
+    }
+    moves
+}
+
 /// Nanoseconds for the whole stream: the library, the independent reader, and a bare copy of the bytes that a reader has to
-/// move; and the bytes of the stream. Each side writes to buffers of its own, which are not cleared between passes.
+/// move, in the same parts; and the bytes of the stream. All write to the same buffers, which are not cleared between
+/// passes.
 pub fn measure(role: Role, length: usize, piece: usize) -> ([f64; 3], usize) {
     let (stream, count) = stream(role, length);
     let stream = &stream[..];
-    let capsule = stream.len() / count;
-    let [mut gathering, mut other_gathering] = [vec![0; LIMIT], vec![0; LIMIT]];
-    let [mut output, mut other_output] = [vec![0; piece + 8], vec![0; piece + 8]];
-    let mut copy = vec![0; piece.max(LIMIT)];
+    let moves = moves(role, stream, count, length, piece);
+    let buffers = RefCell::new((vec![0; LIMIT], vec![0; piece + 8]));
     let ours: Work = Box::new(|| {
-        let (gathering, output) = (&mut gathering[..], &mut output[..]);
+        let (gathering, output) = &mut *buffers.borrow_mut();
         feed_all!(
             maruzhenu,
             role,
@@ -89,7 +112,7 @@ pub fn measure(role: Role, length: usize, piece: usize) -> ([f64; 3], usize) {
         )
     });
     let theirs: Work = Box::new(|| {
-        let (gathering, output) = (&mut other_gathering[..], &mut other_output[..]);
+        let (gathering, output) = &mut *buffers.borrow_mut();
         feed_all!(
             independent,
             role,
@@ -101,22 +124,15 @@ pub fn measure(role: Role, length: usize, piece: usize) -> ([f64; 3], usize) {
         )
     });
     let bare: Work = Box::new(|| {
-        let sum = (count * (length + 1)) as u64;
-        match role {
-            Role::Endpoint => {
-                for capsule in stream.chunks(capsule) {
-                    let value = &capsule[capsule.len() - length..];
-                    black_box(&mut copy)[..length].copy_from_slice(value);
-                }
-                sum
-            }
-            Role::Intermediary => {
-                for piece in stream.chunks(piece) {
-                    black_box(&mut copy)[..piece.len()].copy_from_slice(piece);
-                }
-                sum + stream.len() as u64
-            }
+        let (gathering, output) = &mut *buffers.borrow_mut();
+        let (to, sum) = match role {
+            Role::Endpoint => (gathering, count * (length + 1)),
+            Role::Intermediary => (output, count * (length + 1) + stream.len()),
+        };
+        for &[from, size, place] in &moves {
+            black_box(&mut to[place..place + size]).copy_from_slice(&stream[from..from + size]);
         }
+        sum as u64
     });
     let times = race(&mut [ours, theirs, bare]);
     ([times[0], times[1], times[2]], stream.len())
