@@ -83,7 +83,9 @@ fn rows(title: &str, rows: Vec<Row>) {
 }
 
 fn plot(path: &str) -> std::io::Result<()> {
-    let lengths: Vec<usize> = (0..=14).map(|power| 1 << power).collect();
+    let lengths = [
+        1, 2, 4, 10, 20, 40, 100, 200, 400, 1_000, 1_200, 2_000, 4_000, 8_000, 16_000,
+    ];
     let mut lines = vec![
         plot::Line::new("verified, endpoint", "#c0392b", false),
         plot::Line::new("independent, endpoint", "#2874a6", false),
@@ -91,7 +93,7 @@ fn plot(path: &str) -> std::io::Result<()> {
         plot::Line::new("independent, intermediary", "#2874a6", true),
         plot::Line::new("bare copy of the values", "#555555", false),
     ];
-    for &length in &lengths {
+    for length in lengths {
         for (first, role) in [(0, Role::Endpoint), (2, Role::Intermediary)] {
             let (times, bytes) = feeding::measure(role, length, 16_384);
             let per_byte = times.map(|time| time / bytes as f64);

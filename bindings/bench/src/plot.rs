@@ -31,11 +31,11 @@ const BOTTOM: f64 = 60.0;
 /// Draws the lines: nanoseconds per byte over the length of values.
 pub fn draw(title: &str, lines: &[Line]) -> String {
     let all = || lines.iter().flat_map(|line| &line.points);
-    let most_x = all().map(|point| point.0).fold(1.0, f64::max).log2();
+    let most_x = all().map(|point| point.0).fold(1.0, f64::max).log10();
     let lowest = all().map(|point| point.1).fold(f64::INFINITY, f64::min);
     let highest = all().map(|point| point.1).fold(0.0, f64::max);
     let (low, high) = (lowest.log10().floor(), highest.log10().ceil());
-    let x = |value: f64| LEFT + value.log2() / most_x * (WIDTH - LEFT - RIGHT);
+    let x = |value: f64| LEFT + value.log10() / most_x * (WIDTH - LEFT - RIGHT);
     let y =
         |value: f64| TOP + (high - value.log10()) / (high - low).max(1.0) * (HEIGHT - TOP - BOTTOM);
 
@@ -54,13 +54,13 @@ pub fn draw(title: &str, lines: &[Line]) -> String {
     let bottom = HEIGHT - BOTTOM;
     let mut power = 0.0;
     while power <= most_x {
-        let value = power.exp2();
+        let value = 10f64.powf(power);
         let place = x(value);
         put(format!(
             r##"<path d="M{place:.1} {TOP} V{bottom}" stroke="#e5e5e5"/><text x="{place:.1}" y="{:.1}" text-anchor="middle">{value}</text>"##,
             bottom + 18.0
         ));
-        power += 2.0;
+        power += 1.0;
     }
     let mut power = low;
     while power <= high {
