@@ -1,1 +1,113 @@
--- What holds of the calls.
+-- What holds of the calls. Each claim is a type here, and is proved in proofs/ under its name in lower case with dashes.
+use Prim.{Unit}
+use Prim.Native.Nat.{ℕ, _+_, _≤_}
+use mathlib.Core.Path.{_≡_}
+use mathlib.Core.Bool.{Bool, true, false}
+use mathlib.Core.List.{List}
+use lib.ListN.{length, take, drop}
+use Rattle.wire.specs.declared.units.StreamId.{StreamId}
+use Rattle.wire.specs.Bytes.{Bytes}
+use Rattle.wire.specs.Writing.{Writing, writeVarint}
+use Rattle.capsule.specs.declared.reader.Phase.{Phase}
+use Rattle.capsule.specs.declared.reader.Phase.the-variants.{InType, InLength, InValue}
+use Rattle.capsule.specs.declared.reader.Reader.{Reader}
+use Rattle.capsule.specs.declared.reader.Opened.the-variants.{Ready}
+use Rattle.capsule.specs.Calls.{Lent}
+use Rattle.capsule.specs.Reader.{isMakeable, openOf, feedOf, closeOf}
+use Rattle.streams.specs.declared.table.Opening.{Opening}
+use Rattle.streams.specs.declared.table.Closing.{Closing}
+use Rattle.streams.specs.Tables.{tableOpened, tableClosed}
+use Rattle.streams.specs.Rows.{tableOf, isBadRows, openingRows, closingRows}
+use Rattle.datagram.specs.Judging.{judgedRows, payloadRows}
+use Rattle.datagram.specs.Sending.{writeCapsuleRows, writeFrameRows}
+use Rattle.capi.specs.declared.words.Loaded.the-variants.{Is}
+use Rattle.capi.specs.Numbers.{roleOf, flagOf, sideOf}
+use Rattle.capi.specs.Varint.{wroteBy}
+use Rattle.capi.specs.Words.{wordsOf, readerIn}
+use Rattle.capi.specs.Reader.{OpenDone, openWords, FeedDone, fedAnswer, feedWords, CloseDone, closedAnswer, closeWords}
+use Rattle.capi.specs.Table.{Rows, rows, streamId, rowsOpened, openRows, rowsClosed, closeRows}
+use Rattle.capi.specs.Frames.{judgedAnswer}
+
+-- ---- the stored form of a reader (proofs/StoredForm.antt)
+
+-- a partial varint's `have` is a byte in the code
+abbrev pub HaveIsByte : Phase → Type 0
+HaveIsByte (InType part) = part .have ≤ 255
+HaveIsByte (InLength t part) = part .have ≤ 255
+HaveIsByte (InValue t n left) = Unit {0}
+
+-- what was stored is read back
+abbrev pub StoredRead : Type 0
+StoredRead = (r : Reader) → HaveIsByte (r .phase) → readerIn (wordsOf r) ≡ Is r
+
+-- and nothing else is read as that reader
+abbrev pub ReadAsStored : Type 0
+ReadAsStored = (ws : List ℕ) (r : Reader) → length ws ≡ 8 → readerIn ws ≡ Is r → wordsOf r ≡ ws
+
+-- ---- calls on a reader in words (proofs/Keeping.antt)
+
+-- a refusal leaves the words and both buffers
+abbrev pub RefusedReaderLeaves : Type 0
+RefusedReaderLeaves =
+    (ws : List ℕ)
+    → ((role limit draft : ℕ) → (openWords ws role limit draft .answer ≡ 0 → ⊥) → openWords ws role limit draft .words ≡ ws)
+    × ((p : List ℕ) (b : Lent) → (feedWords ws p b .answer .refusal ≡ 0 → ⊥) → (feedWords ws p b .words ≡ ws) × (feedWords ws p b .buffers ≡ b))
+    × ((closeWords ws .answer .refusal ≡ 0 → ⊥) → closeWords ws .words ≡ ws)
+
+-- the next call finds the reader that was opened
+abbrev pub OpenKept : Type 0
+OpenKept =
+    (ws : List ℕ) (role limit draft : ℕ)
+    → openWords ws role limit draft .answer ≡ 0
+    → (r : Reader) × (openOf (roleOf role) limit (flagOf draft) ≡ Ready r) × (openWords ws role limit draft .words ≡ wordsOf r) × (isMakeable r ≡ true)
+
+-- on the words of a reader that can be made, a call is that of the reader, and the words afterwards are those of its state, which can be made again
+pub record FeedKept (r : Reader) (p : List ℕ) (b : Lent) : Type 0 where
+  pub answer : feedWords (wordsOf r) p b .answer ≡ fedAnswer (feedOf r p b .answer)
+  pub words : feedWords (wordsOf r) p b .words ≡ wordsOf (feedOf r p b .reader)
+  pub buffers : feedWords (wordsOf r) p b .buffers ≡ feedOf r p b .buffers
+  pub makeable : isMakeable (feedOf r p b .reader) ≡ true
+
+pub record CloseKept (r : Reader) : Type 0 where
+  pub answer : closeWords (wordsOf r) .answer ≡ closedAnswer (closeOf r .answer)
+  pub words : closeWords (wordsOf r) .words ≡ wordsOf (closeOf r .reader)
+  pub makeable : isMakeable (closeOf r .reader) ≡ true
+
+abbrev pub ReaderKept : Type 0
+ReaderKept = (r : Reader) → isMakeable r ≡ true → ((p : List ℕ) (b : Lent) → Bytes p → FeedKept r p b) × CloseKept r
+
+-- ---- calls on a table in rows (proofs/RowCalls.antt)
+
+-- the rows afterwards are the table afterwards
+abbrev pub RowsAreTable : Type 0
+RowsAreTable =
+    (qs ms : List ℕ)
+    → ((id : StreamId) (semantics : Bool) (o : Opening) → let after = rowsOpened qs ms id semantics o in tableOf (after .quarters) (after .marks) ≡ tableOpened (tableOf qs ms) id semantics o)
+    × ((c : Closing) → let after = rowsClosed qs ms c in tableOf (after .quarters) (after .marks) ≡ tableClosed (tableOf qs ms) c)
+
+-- a refusal leaves both rows
+abbrev pub RefusedTableLeaves : Type 0
+RefusedTableLeaves =
+    (qs ms : List ℕ) (id x : ℕ)
+    → ((openRows qs ms id x .answer .refusal ≡ 0 → ⊥) → openRows qs ms id x .table ≡ rows qs ms)
+    × ((closeRows qs ms id x .answer .refusal ≡ 0 → ⊥) → closeRows qs ms id x .table ≡ rows qs ms)
+
+-- ---- payloads and writers (proofs/Payloads.antt)
+
+-- the answered part lies in the frame and is its payload: empty where it is not delivered
+abbrev pub PayloadPart : Type 0
+PayloadPart =
+    (qs ms : List ℕ) (streams limit : ℕ) (frame : List ℕ)
+    → let a = judgedAnswer frame (judgedRows qs ms streams limit frame) in
+    (a .start + a .length ≤ length frame) × (take (a .length) (drop (a .start) frame) ≡ payloadRows qs ms streams limit frame)
+
+-- a refusal leaves the output
+abbrev pub RefusalLeaves : Writing → List ℕ → Type 0
+RefusalLeaves w out = (wroteBy w .answer .refusal ≡ 0 → ⊥) → wroteBy w .output ≡ out
+
+abbrev pub RefusedWriteLeaves : Type 0
+RefusedWriteLeaves =
+    (out : List ℕ) (place : ℕ)
+    → ((n : ℕ) → RefusalLeaves (writeVarint n out place) out)
+    × ((qs ms : List ℕ) (id : StreamId) (payload : List ℕ) → RefusalLeaves (writeCapsuleRows qs ms id payload out place) out)
+    × ((qs ms : List ℕ) (id : StreamId) (ours peers path : ℕ) (payload : List ℕ) → RefusalLeaves (writeFrameRows qs ms id ours peers path payload out place) out)

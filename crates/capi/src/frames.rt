@@ -1,11 +1,14 @@
 // QUIC DATAGRAM payloads judged; capsules and frames written.
 ghost use mathlib.Core.Path.{_≡_};
 ghost use Rattle.wire.specs.Varint.{readVarint};
+ghost use Rattle.datagram.specs.declared.judge.Judged.the-variants.{Delivered};
 ghost use Rattle.datagram.specs.Judging.{judgedRows};
 ghost use Rattle.datagram.specs.Sending.{writeCapsuleRows, writeFrameRows};
+ghost use Rattle.http.specs.Ties.{judgedError};
+ghost use Rattle.capi.specs.Numbers.{errorNumber};
 ghost use Rattle.capi.specs.Varint.{wrote, wroteBy};
 ghost use Rattle.capi.specs.Table.{streamId};
-ghost use Rattle.capi.specs.Frames.{ruledAnswer, partAnswer, deliveredAnswer, judgedAnswer};
+ghost use Rattle.capi.specs.Frames.{judgedNumbers, judgedAs, deliveredAnswer, judgedAnswer};
 use crate::numbers::error_number;
 use crate::numbers::refusal_number;
 use crate::varint::WrittenAnswer;
@@ -30,9 +33,9 @@ pub struct JudgedAnswer {
     pub error: u64,
 }
 
-// Rules 1 to 7.
+// Rules 1 to 7, by their numbers.
 fn ruled(rule: u64, judged: Judged) -> JudgedAnswer
-    ensures { λ r. ⌜ r ≡ ruledAnswer rule judged ⌝ }
+    ensures { λ r. ⌜ r ≡ judgedNumbers rule (errorNumber (judgedError judged)) 0 0 0 ⌝ }
 {
     JudgedAnswer {
         refusal: 0,
@@ -45,7 +48,7 @@ fn ruled(rule: u64, judged: Judged) -> JudgedAnswer
 }
 
 fn part(place: usize, start: usize, length: usize) -> JudgedAnswer
-    ensures { λ r. ⌜ r ≡ partAnswer place start length ⌝ }
+    ensures { λ r. ⌜ r ≡ judgedAs (Delivered place) place start length ⌝ }
 {
     JudgedAnswer {
         refusal: 0,

@@ -1,5 +1,6 @@
-use mathlib.Core.Path.{sym, ap, _∙_}
-use Rattle.capi.specs.Frames.{ruledAnswer, judgedAnswer}
+use mathlib.Core.Path.{sym, _∙_}
+use Rattle.datagram.specs.Judging.{ruleOf}
+use Rattle.capi.specs.Frames.{ruleNumber, judgedAnswer}
 use borrow.Author.Needs.{needs}
 use Rattle.capi.proofs.frames.mrz_judge.Statement.{statement}
 use Rattle.capi.proofs.frames.mrz_judge.Tie as tie
@@ -66,32 +67,32 @@ unfolding judgedAnswer
 returns c = rw (sym (c .before .before .before .before .judge .ensures) ∙ c .before .before .judged .given .1, c .refusal-number .ensures)
 
 returns-2 : tie.Need-returns-2
-unfolding judgedAnswer
-returns-2 c = rw (sym (c .before .before .before .judge .ensures) ∙ c .before .enum-told .given .1) (c .ruled .ensures ∙ ap (ruledAnswer 1) (c .before .enum-told .given .1))
+unfolding judgedAnswer ruleNumber ruleOf
+returns-2 c = rw (sym (c .before .before .before .judge .ensures) ∙ c .before .enum-told .given .1) (c .ruled .ensures ∙ rw (c .before .enum-told .given .1))
 
 returns-3 : tie.Need-returns-3
-unfolding judgedAnswer
-returns-3 c = rw (sym (c .before .before .before .judge .ensures) ∙ c .before .enum-told2 .given .1) (c .ruled2 .ensures ∙ ap (ruledAnswer 2) (c .before .enum-told2 .given .1))
+unfolding judgedAnswer ruleNumber ruleOf
+returns-3 c = rw (sym (c .before .before .before .judge .ensures) ∙ c .before .enum-told2 .given .1) (c .ruled2 .ensures ∙ rw (c .before .enum-told2 .given .1))
 
 returns-4 : tie.Need-returns-4
-unfolding judgedAnswer
-returns-4 c = rw (sym (c .before .before .before .judge .ensures) ∙ c .before .enum-told3 .given .1) (c .ruled3 .ensures ∙ ap (ruledAnswer 3) (c .before .enum-told3 .given .1))
+unfolding judgedAnswer ruleNumber ruleOf
+returns-4 c = rw (sym (c .before .before .before .judge .ensures) ∙ c .before .enum-told3 .given .1) (c .ruled3 .ensures ∙ rw (c .before .enum-told3 .given .1))
 
 returns-5 : tie.Need-returns-5
-unfolding judgedAnswer
-returns-5 c = rw (sym (c .before .before .before .judge .ensures) ∙ c .before .enum-told4 .given .1) (c .ruled4 .ensures ∙ ap (ruledAnswer 4) (c .before .enum-told4 .given .1))
+unfolding judgedAnswer ruleNumber ruleOf
+returns-5 c = rw (sym (c .before .before .before .judge .ensures) ∙ c .before .enum-told4 .given .1) (c .ruled4 .ensures ∙ rw (c .before .enum-told4 .given .1))
 
 returns-6 : tie.Need-returns-6
-unfolding judgedAnswer
-returns-6 c = rw (sym (c .before .before .before .judge .ensures) ∙ c .before .enum-told5 .given .1) (c .ruled5 .ensures ∙ ap (ruledAnswer 5) (c .before .enum-told5 .given .1))
+unfolding judgedAnswer ruleNumber ruleOf
+returns-6 c = rw (sym (c .before .before .before .judge .ensures) ∙ c .before .enum-told5 .given .1) (c .ruled5 .ensures ∙ rw (c .before .enum-told5 .given .1))
 
 returns-7 : tie.Need-returns-7
-unfolding judgedAnswer
-returns-7 c = rw (sym (c .before .before .before .judge .ensures) ∙ c .before .enum-told6 .given .1) (c .ruled6 .ensures ∙ ap (ruledAnswer 6) (c .before .enum-told6 .given .1))
+unfolding judgedAnswer ruleNumber ruleOf
+returns-7 c = rw (sym (c .before .before .before .judge .ensures) ∙ c .before .enum-told6 .given .1) (c .ruled6 .ensures ∙ rw (c .before .enum-told6 .given .1))
 
 returns-8 : tie.Need-returns-8
-unfolding judgedAnswer
-returns-8 c = rw (sym (c .before .before .before .judge .ensures) ∙ c .before .enum-told7 .given .1) (c .ruled7 .ensures ∙ ap (ruledAnswer 7) (c .before .enum-told7 .given .1))
+unfolding judgedAnswer ruleNumber ruleOf
+returns-8 c = rw (sym (c .before .before .before .judge .ensures) ∙ c .before .enum-told7 .given .1) (c .ruled7 .ensures ∙ rw (c .before .enum-told7 .given .1))
 
 returns-9 : tie.Need-returns-9
 unfolding judgedAnswer

@@ -1,4 +1,3 @@
-use Rattle.capi.specs.Frames.{ruledAnswer}
 use borrow.Author.Needs.{needs}
 use Rattle.capi.proofs.frames.ruled.Statement.{statement}
 use Rattle.capi.proofs.frames.ruled.Tie as tie
@@ -10,7 +9,6 @@ error-number-requires : tie.Need-error-number-requires
 error-number-requires c κs = search needs
 
 returns : tie.Need-returns
-unfolding ruledAnswer
 returns c = rw (c .error-number .ensures, c .before .judged-error .ensures)
 
 pub ruled-spec : {M : Type 1} → statement M

@@ -1,0 +1,97 @@
+-- Payloads and writers (specs/Claims.antt). Assumes nothing.
+use Prim.Native.Nat.{ℕ, _+_, _-_, _≤_}
+use mathlib.Core.Path.{_≡_, refl, sym, ap, _∙_}
+use mathlib.Core.Bool.{Bool, true, false, cond}
+use mathlib.Core.List.{List, []}
+use native.Mathlib.Omega.{arith}
+use lib.ListN.{length, take, drop, length-drop}
+use lib.Seq.{take-all, sets}
+use lib.Dec.{leb}
+use Rattle.refusals.specs.declared.Refusal.{Refusal}
+use Rattle.wire.specs.declared.units.StreamId.{StreamId}
+use Rattle.wire.specs.declared.varint.Varint.{Varint}
+use Rattle.wire.specs.declared.varint.Varint.the-variants.{Incomplete, Whole}
+use Rattle.wire.specs.declared.varint.Written.the-variants.{Wrote}
+use Rattle.wire.specs.Varint.{largest, readVarint, encode}
+use Rattle.wire.specs.Writing.{Writing, writing, refuses, writeAt, writeVarint}
+use Rattle.wire.proofs.Reading.{reads}
+use Rattle.datagram.specs.declared.judge.Judged.{Judged}
+use Rattle.datagram.specs.declared.judge.Judged.the-variants.{Refused, ShortFrame, QuarterTooLarge, BeyondLimit, NoStream, ReceiveClosed, NoSemantics, TooLong, Delivered}
+use Rattle.datagram.specs.Judging.{isDelivered, ifDelivered, behind, judgedRows, payloadRows}
+use Rattle.datagram.specs.declared.write.Sending.{Sending}
+use Rattle.datagram.specs.declared.write.Sending.the-variants as sending
+use Rattle.datagram.specs.Sending.{capsuleBytes, frameBytes, agreed, putCapsule, putFrame, capsuleWritten, frameWritten, sendingRows, writeCapsuleRows, writeFrameRows}
+use Rattle.capi.specs.Varint.{writtenAnswer, wroteBy}
+use Rattle.capi.specs.Frames.{deliveredAnswer, judgedAnswer}
+use Rattle.capi.specs.Claims.{PayloadPart, RefusalLeaves, RefusedWriteLeaves}
+
+-- ---- the payload's part of the frame
+
+module _ (frame : List ℕ) where
+  abbrev Part : ℕ → ℕ → List ℕ → Type 0
+  Part start n payload = (start + n ≤ length frame) × (take n (drop start frame) ≡ payload)
+
+  part-read : (place : ℕ) (v : Varint) → readVarint frame ≡ v → let a = deliveredAnswer place frame v in Part (a .start) (a .length) (behind v frame)
+  unfolding deliveredAnswer behind
+  part-read place Incomplete e = (omega arith, refl)
+  part-read place (Whole q size) e =
+      let fits : size ≤ length frame = reads frame q size e .fits in
+      (omega arith, take-all (length frame - size) (drop size frame) (omega (arith, length-drop size frame)))
+
+  part-judged : (j : Judged) → let a = judgedAnswer frame j in Part (a .start) (a .length) (ifDelivered j (behind (readVarint frame) frame))
+  unfolding judgedAnswer ifDelivered isDelivered
+  part-judged (Refused why) = (omega arith, refl)
+  part-judged ShortFrame = (omega arith, refl)
+  part-judged QuarterTooLarge = (omega arith, refl)
+  part-judged BeyondLimit = (omega arith, refl)
+  part-judged NoStream = (omega arith, refl)
+  part-judged ReceiveClosed = (omega arith, refl)
+  part-judged NoSemantics = (omega arith, refl)
+  part-judged TooLong = (omega arith, refl)
+  part-judged (Delivered place) = part-read place (readVarint frame) refl
+
+pub payload-part : PayloadPart
+unfolding payloadRows
+payload-part qs ms streams limit frame = part-judged frame (judgedRows qs ms streams limit frame)
+
+-- ---- a refusal leaves the output
+
+module _ (out : List ℕ) (place : ℕ) where
+  leaves-refused : (why : Refusal) → RefusalLeaves (refuses why out) out
+  unfolding refuses wroteBy
+  leaves-refused why n = refl
+
+  leaves-wrote : (count : ℕ) (after : List ℕ) → RefusalLeaves (writing (Wrote count) after) out
+  unfolding wroteBy writtenAnswer
+  leaves-wrote count after n = absurd (n refl)
+
+  leaves-if : (t : Bool) (x y : Writing) → RefusalLeaves x out → RefusalLeaves y out → RefusalLeaves (cond t x y) out
+  leaves-if true x y a b = a
+  leaves-if false x y a b = b
+
+  leaves-at : (bytes : List ℕ) → RefusalLeaves (writeAt bytes out place) out
+  unfolding writeAt
+  leaves-at bytes = leaves-if (leb (place + length bytes) (length out)) _ _ (leaves-wrote (length bytes) (sets out place bytes)) (leaves-refused _)
+
+  leaves-varint : (n : ℕ) → RefusalLeaves (writeVarint n out place) out
+  unfolding writeVarint
+  leaves-varint n = leaves-if (leb n largest) _ _ (leaves-at (encode n)) (leaves-refused _)
+
+  leaves-capsule : (s : Sending) (payload : List ℕ) → RefusalLeaves (capsuleWritten s payload out place) out
+  unfolding capsuleWritten putCapsule
+  leaves-capsule (sending.Refused why) payload = leaves-refused why
+  leaves-capsule (sending.To q) payload = leaves-if (leb (length payload) 65535) _ _ (leaves-at (capsuleBytes payload)) (leaves-refused _)
+
+  leaves-frame : (s : Sending) (path : ℕ) (payload : List ℕ) → RefusalLeaves (frameWritten s path payload out place) out
+  unfolding frameWritten putFrame
+  leaves-frame (sending.Refused why) path payload = leaves-refused why
+  leaves-frame (sending.To q) path payload =
+      leaves-if (leb (length payload) 65535) _ _ (leaves-if (leb (length (frameBytes (q .0) payload)) path) _ _ (leaves-at (frameBytes (q .0) payload)) (leaves-refused _)) (leaves-refused _)
+
+pub refused-write-leaves : RefusedWriteLeaves
+unfolding writeCapsuleRows writeFrameRows
+refused-write-leaves out place = (
+  λ n. leaves-varint out place n,
+  λ qs ms id payload. leaves-capsule out place (sendingRows qs ms id true) payload,
+  λ qs ms id ours peers path payload. leaves-frame out place (sendingRows qs ms id (agreed ours peers)) path payload,
+)

@@ -1,0 +1,131 @@
+-- The stored form of a reader (specs/Claims.antt). Assumes nothing.
+use Prim.Native.Nat.{ℕ, _≤_}
+use mathlib.Core.Path.{_≡_, refl, sym, ap, _∙_}
+use mathlib.Core.Bool.{Bool, true, false, cond, not, _&&_}
+use mathlib.Core.List.{List, [], _∷_}
+use native.Mathlib.Omega.{arith}
+use lib.ListN.{length}
+use lib.Dec.{leb, eqb}
+use borrow.Author.Tests.{le-leb, leb-true, eqb-true, eqb-false, eq-eqb}
+use Rattle.wire.specs.Partial.{partial}
+use Rattle.wire.proofs.Parts.{parted}
+use Rattle.capsule.specs.declared.opening.Role.{Role}
+use Rattle.capsule.specs.declared.opening.Role.the-variants.{Endpoint, Intermediary}
+use Rattle.capsule.specs.declared.reader.Phase.{Phase}
+use Rattle.capsule.specs.declared.reader.Phase.the-variants.{InType, InLength, InValue}
+use Rattle.capsule.specs.declared.reader.Reader.{Reader}
+use Rattle.capsule.proofs.Planning.{zero-one}
+use Rattle.capi.specs.declared.words.LoadedPhase.{LoadedPhase}
+use Rattle.capi.specs.declared.words.LoadedPhase.the-variants as phase
+use Rattle.capi.specs.declared.words.Loaded.{Loaded}
+use Rattle.capi.specs.declared.words.Loaded.the-variants as loaded
+use Rattle.capi.specs.Numbers.{flagOf, bitOf, roleOf}
+use Rattle.capi.specs.Words.{roleNumber, phaseWords, wordsOf, phaseIn, withPhase, readerIn}
+use Rattle.capi.specs.Claims.{HaveIsByte, StoredRead, ReadAsStored}
+
+-- ---- numbers there and back
+
+role-small : (role : Role) → leb (roleNumber role) 1 ≡ true
+unfolding roleNumber
+role-small Endpoint = refl
+role-small Intermediary = refl
+
+role-back : (role : Role) → roleOf (roleNumber role) ≡ role
+unfolding roleNumber roleOf
+role-back Endpoint = refl
+role-back Intermediary = refl
+
+bit-small : (b : Bool) → leb (bitOf b) 1 ≡ true
+unfolding bitOf
+bit-small true = refl
+bit-small false = refl
+
+bit-back : (b : Bool) → flagOf (bitOf b) ≡ b
+unfolding bitOf flagOf
+bit-back true = refl
+bit-back false = refl
+
+role-there : (n : ℕ) → leb n 1 ≡ true → roleNumber (roleOf n) ≡ n
+unfolding roleNumber roleOf
+role-there n small = go (eqb n 0) refl
+  where
+    go : (t : Bool) → eqb n 0 ≡ t → roleNumber (cond t Endpoint Intermediary) ≡ n
+    go true e = sym (eqb-true n 0 e)
+    go false e = omega (arith, leb-true n 1 small, eqb-false n 0 e)
+
+bit-there : (n : ℕ) → leb n 1 ≡ true → bitOf (flagOf n) ≡ n
+unfolding bitOf flagOf
+bit-there n small = go (eqb n 0) refl
+  where
+    go : (t : Bool) → eqb n 0 ≡ t → cond (not t) 1 0 ≡ n
+    go true e = sym (eqb-true n 0 e)
+    go false e = omega (arith, leb-true n 1 small, eqb-false n 0 e)
+
+-- ---- what was stored is read back
+
+pub stored-read : StoredRead
+unfolding wordsOf readerIn
+stored-read r byte = go (r .phase) byte
+  where
+    go : (x : Phase) → HaveIsByte x → readerIn (wordsOf (record { opening = r .opening; phase = x; finished = r .finished })) ≡ loaded.Is (record { opening = r .opening; phase = x; finished = r .finished })
+    go (InType part) h = unfold phaseWords phaseIn withPhase in simp (role-small (r .opening .role), bit-small (r .opening .draft), bit-small (r .finished), le-leb (part .have) 255 h, role-back (r .opening .role), bit-back (r .opening .draft), bit-back (r .finished))
+    go (InLength t part) h = unfold phaseWords phaseIn withPhase in simp (role-small (r .opening .role), bit-small (r .opening .draft), bit-small (r .finished), le-leb (part .have) 255 h, role-back (r .opening .role), bit-back (r .opening .draft), bit-back (r .finished))
+    go (InValue t n left) h = unfold phaseWords phaseIn withPhase in simp (role-small (r .opening .role), bit-small (r .opening .draft), bit-small (r .finished), role-back (r .opening .role), bit-back (r .opening .draft), bit-back (r .finished))
+
+-- ---- nothing else is read as that reader
+
+module _ (k a b c : ℕ) (p : Phase) where
+  -- the tests of a phase, one by one
+  phase-tests : (t0 t1 t2 tType tLength : Bool) → eqb k 0 ≡ t0 → eqb k 1 ≡ t1 → eqb k 2 ≡ t2 → (leb a 255 && eqb c 0) ≡ tType
+      → cond t0 (cond tType (phase.Is (InType (partial a b))) phase.Nothing) (cond t1 (cond tLength (phase.Is (InLength a (partial b c))) phase.Nothing) (cond t2 (phase.Is (InValue a b c)) phase.Nothing)) ≡ phase.Is p
+      → phaseWords p ≡ k ∷ a ∷ b ∷ c ∷ []
+  unfolding phaseWords
+  phase-tests true t1 t2 true tLength e0 e1 e2 eType h =
+      let d : InType (partial a b) ≡ p = cc in
+      rw (← d, eqb-true k 0 e0, eqb-true c 0 (parted (leb a 255) (eqb c 0) eType .1))
+  phase-tests true t1 t2 false tLength e0 e1 e2 eType h = zero-one (cc)
+  phase-tests false true t2 tType true e0 e1 e2 eType h =
+      let d : InLength a (partial b c) ≡ p = cc in
+      rw (← d, eqb-true k 1 e1)
+  phase-tests false true t2 tType false e0 e1 e2 eType h = zero-one (cc)
+  phase-tests false false true tType tLength e0 e1 e2 eType h =
+      let d : InValue a b c ≡ p = cc in
+      rw (← d, eqb-true k 2 e2)
+  phase-tests false false false tType tLength e0 e1 e2 eType h = zero-one (cc)
+
+  phase-stored : phaseIn k a b c ≡ phase.Is p → phaseWords p ≡ k ∷ a ∷ b ∷ c ∷ []
+  unfolding phaseIn
+  phase-stored h = phase-tests (eqb k 0) (eqb k 1) (eqb k 2) (leb a 255 && eqb c 0) (leb b 255) refl refl refl refl h
+
+module _ (a0 a1 a2 a3 a4 a5 a6 a7 : ℕ) (r : Reader) where
+  abbrev ws : List ℕ
+  ws = a0 ∷ a1 ∷ a2 ∷ a3 ∷ a4 ∷ a5 ∷ a6 ∷ a7 ∷ []
+
+  with-stored : leb a0 1 ≡ true → leb a2 1 ≡ true → leb a7 1 ≡ true → (x : LoadedPhase) → phaseIn a3 a4 a5 a6 ≡ x → withPhase a0 a1 a2 a7 x ≡ loaded.Is r → wordsOf r ≡ ws
+  unfolding withPhase wordsOf
+  with-stored s0 s2 s7 phase.Nothing e h = zero-one (cc)
+  with-stored s0 s2 s7 (phase.Is p) e h =
+      let d : record { opening = record { role = roleOf a0; limit = a1; draft = flagOf a2 }; phase = p; finished = flagOf a7 } ≡ r = cc in
+      rw (← d, role-there a0 s0, bit-there a2 s2, bit-there a7 s7, phase-stored a3 a4 a5 a6 p e)
+
+  read-tests : (t0 t2 t7 : Bool) → leb a0 1 ≡ t0 → leb a2 1 ≡ t2 → leb a7 1 ≡ t7 → cond (t0 && (t2 && t7)) (withPhase a0 a1 a2 a7 (phaseIn a3 a4 a5 a6)) loaded.Nothing ≡ loaded.Is r → wordsOf r ≡ ws
+  read-tests true true true s0 s2 s7 h = with-stored s0 s2 s7 (phaseIn a3 a4 a5 a6) refl h
+  read-tests true true false s0 s2 s7 h = zero-one (cc)
+  read-tests true false t7 s0 s2 s7 h = zero-one (cc)
+  read-tests false t2 t7 s0 s2 s7 h = zero-one (cc)
+
+  eight-stored : readerIn ws ≡ loaded.Is r → wordsOf r ≡ ws
+  unfolding readerIn
+  eight-stored h = read-tests (leb a0 1) (leb a2 1) (leb a7 1) refl refl refl h
+
+pub read-as-stored : ReadAsStored
+read-as-stored (a ∷ b ∷ c ∷ d ∷ e ∷ f ∷ g ∷ h ∷ []) r l x = eight-stored a b c d e f g h r x
+read-as-stored (a ∷ b ∷ c ∷ d ∷ e ∷ f ∷ g ∷ h ∷ i ∷ ws) r l x = absurd (omega arith)
+read-as-stored (a ∷ b ∷ c ∷ d ∷ e ∷ f ∷ g ∷ []) r l x = absurd (omega arith)
+read-as-stored (a ∷ b ∷ c ∷ d ∷ e ∷ f ∷ []) r l x = absurd (omega arith)
+read-as-stored (a ∷ b ∷ c ∷ d ∷ e ∷ []) r l x = absurd (omega arith)
+read-as-stored (a ∷ b ∷ c ∷ d ∷ []) r l x = absurd (omega arith)
+read-as-stored (a ∷ b ∷ c ∷ []) r l x = absurd (omega arith)
+read-as-stored (a ∷ b ∷ []) r l x = absurd (omega arith)
+read-as-stored (a ∷ []) r l x = absurd (omega arith)
+read-as-stored [] r l x = absurd (omega arith)
