@@ -42,30 +42,46 @@ fn stream(role: Role, length: usize) -> (Vec<u8>, usize) {
     (stream, count)
 }
 
-macro_rules! feed_all {
-    ($package:ident, $role:expr, $open:path, $stream:expr, $piece:expr, $gathering:expr, $output:expr) => {{
-        let role = match $role {
-            Role::Endpoint => $package::Role::Endpoint,
-            Role::Intermediary => $package::Role::Intermediary,
-        };
-        let mut reader = $open(role, LIMIT as u64, false).expect("the limit is allowed");
-        let mut sum = 0;
-        for mut piece in $stream.chunks($piece) {
-            while !piece.is_empty() {
-                let fed = reader
-                    .feed(piece, &mut $gathering[..], &mut $output[..])
-                    .expect("the buffers suffice");
-                piece = &piece[fed.consumed..];
-                sum += fed.written as u64;
-                match fed.report {
-                    Some($package::Report::Delivered { length }) => sum += length + 1,
-                    Some($package::Report::Passed { length, .. }) => sum += length + 1,
-                    _ => {}
+/// One pass over the stream with a reader of a package, which is opened and fed by these functions.
+macro_rules! pass {
+    ($package:ident, $open:path, $feed:path, $stream:expr, $piece:expr, $role:expr, $buffers:expr) => {
+        Box::new(|| {
+            let (gathering, output) = &mut *$buffers.borrow_mut();
+            // The opening is not known when this is compiled.
+            let role = match black_box($role) {
+                Role::Endpoint => $package::Role::Endpoint,
+                Role::Intermediary => $package::Role::Intermediary,
+            };
+            let limit = black_box(LIMIT as u64);
+            let mut reader = $open(role, limit, black_box(false)).expect("the limit is allowed");
+            let mut sum = 0;
+            for mut piece in $stream.chunks($piece) {
+                while !piece.is_empty() {
+                    let fed =
+                        $feed(&mut reader, piece, gathering, output).expect("the buffers suffice");
+                    piece = &piece[fed.consumed..];
+                    sum += fed.written as u64;
+                    match fed.report {
+                        Some($package::Report::Delivered { length }) => sum += length + 1,
+                        Some($package::Report::Passed { length, .. }) => sum += length + 1,
+                        _ => {}
+                    }
                 }
             }
-        }
-        sum
-    }};
+            sum
+        })
+    };
+}
+
+/// The independent reader behind a call, as a library's is.
+#[inline(never)]
+fn feed_by_call(
+    reader: &mut independent::Reader,
+    piece: &[u8],
+    gathering: &mut [u8],
+    output: &mut [u8],
+) -> Result<independent::Fed, independent::Refusal> {
+    reader.feed(piece, gathering, output)
 }
 
 /// What a reader has to move, call by call: from where in the stream, how many bytes, and to where in the buffer.
@@ -91,39 +107,55 @@ fn moves(role: Role, stream: &[u8], count: usize, length: usize, piece: usize) -
     moves
 }
 
-/// Nanoseconds for the whole stream: the library, the independent reader, and a bare copy of the bytes that a reader has to
-/// move, in the same parts; and the bytes of the stream. All write to the same buffers, which are not cleared between
+/// Nanoseconds for the whole stream.
+pub struct Times {
+    pub ours: f64,
+    /// The independent reader, inlined.
+    pub inlined: f64,
+    /// The independent reader, behind a call.
+    pub called: f64,
+    /// A bare copy of the bytes that a reader has to move, in the same parts.
+    pub copy: f64,
+    /// The bytes of the stream.
+    pub bytes: f64,
+}
+
+/// Reads a stream of values of this length in pieces. All sides write to the same buffers, which are not cleared between
 /// passes.
-pub fn measure(role: Role, length: usize, piece: usize) -> ([f64; 3], usize) {
+pub fn measure(role: Role, length: usize, piece: usize) -> Times {
+    use independent::Reader as Independent;
+    use maruzhenu::Reader as Ours;
     let (stream, count) = stream(role, length);
-    let stream = &stream[..];
-    let moves = moves(role, stream, count, length, piece);
+    let moves = moves(role, &stream, count, length, piece);
     let buffers = RefCell::new((vec![0; LIMIT], vec![0; piece + 8]));
-    let ours: Work = Box::new(|| {
-        let (gathering, output) = &mut *buffers.borrow_mut();
-        feed_all!(
-            maruzhenu,
-            role,
-            maruzhenu::Reader::open,
-            stream,
-            piece,
-            gathering,
-            output
-        )
-    });
-    let theirs: Work = Box::new(|| {
-        let (gathering, output) = &mut *buffers.borrow_mut();
-        feed_all!(
-            independent,
-            role,
-            independent::Reader::new,
-            stream,
-            piece,
-            gathering,
-            output
-        )
-    });
-    let bare: Work = Box::new(|| {
+    let ours: Work = pass!(
+        maruzhenu,
+        Ours::open,
+        Ours::feed,
+        stream,
+        piece,
+        role,
+        buffers
+    );
+    let inlined: Work = pass!(
+        independent,
+        Independent::new,
+        Independent::feed,
+        stream,
+        piece,
+        role,
+        buffers
+    );
+    let called: Work = pass!(
+        independent,
+        Independent::new,
+        feed_by_call,
+        stream,
+        piece,
+        role,
+        buffers
+    );
+    let copy: Work = Box::new(|| {
         let (gathering, output) = &mut *buffers.borrow_mut();
         let (to, sum) = match role {
             Role::Endpoint => (gathering, count * (length + 1)),
@@ -134,6 +166,12 @@ pub fn measure(role: Role, length: usize, piece: usize) -> ([f64; 3], usize) {
         }
         sum as u64
     });
-    let times = race(&mut [ours, theirs, bare]);
-    ([times[0], times[1], times[2]], stream.len())
+    let times = race(&mut [ours, inlined, called, copy]);
+    Times {
+        ours: times[0],
+        inlined: times[1],
+        called: times[2],
+        copy: times[3],
+        bytes: stream.len() as f64,
+    }
 }

@@ -53,19 +53,21 @@ fn feeding() {
     ] {
         for piece in [64, 1_200, 16_384] {
             for length in [0, 4, 32, 100, 1_000, 1_200, 16_000] {
-                let (times, bytes) = feeding::measure(role, length, piece);
-                let [ours, theirs, copy] = times.map(|time| time * 1_024.0 / bytes as f64);
+                let times = feeding::measure(role, length, piece);
                 let row = |peer, theirs, aim| Row {
                     work: format!("{name}: values of {length}, pieces of {piece}"),
                     peer,
-                    ours,
-                    theirs,
+                    ours: times.ours * 1_024.0 / times.bytes,
+                    theirs: theirs * 1_024.0 / times.bytes,
                     unit: "KiB of stream",
-                    aim: Some(aim),
+                    aim,
                 };
-                row("independent Rust reader", theirs, 1.0).print();
+                row("independent Rust reader", times.inlined, Some(1.0)).print();
+                if piece == 16_384 {
+                    row("the same, not inlined", times.called, None).print();
+                }
                 if length == 16_000 {
-                    row("bare copy of the same bytes", copy, 1.15).print();
+                    row("bare copy of the same bytes", times.copy, Some(1.15)).print();
                 }
             }
         }
@@ -95,12 +97,15 @@ fn plot(path: &str) -> std::io::Result<()> {
     ];
     for length in lengths {
         for (first, role) in [(0, Role::Endpoint), (2, Role::Intermediary)] {
-            let (times, bytes) = feeding::measure(role, length, 16_384);
-            let per_byte = times.map(|time| time / bytes as f64);
-            lines[first].points.push((length as f64, per_byte[0]));
-            lines[first + 1].points.push((length as f64, per_byte[1]));
+            let times = feeding::measure(role, length, 16_384);
+            let mut push = |line: usize, time: f64| {
+                let point = (length as f64, time / times.bytes);
+                lines[line].points.push(point);
+            };
+            push(first, times.ours);
+            push(first + 1, times.inlined);
             if role == Role::Endpoint {
-                lines[4].points.push((length as f64, per_byte[2]));
+                push(4, times.copy);
             }
         }
     }
