@@ -223,7 +223,7 @@ fn refused(session: &mut Session, random: &mut Random, piece: &[u8]) -> Outcome 
         0 if limit > 0 => {
             let short = random.one_of(&[limit - 1, 0, limit / 2]);
             let gathering = buffer(random, short);
-            let output = buffer(random, random_output(needed, piece.len()));
+            let output = buffer(random, sometimes_short(needed, piece.len()));
             session.feed(piece, gathering, output)?;
         }
         1 => {
@@ -251,7 +251,7 @@ fn refused(session: &mut Session, random: &mut Random, piece: &[u8]) -> Outcome 
 }
 
 /// Enough for the piece, or one byte less.
-fn random_output(needed: usize, piece: usize) -> usize {
+fn sometimes_short(needed: usize, piece: usize) -> usize {
     needed - piece % 2
 }
 
