@@ -1,11 +1,10 @@
 -- Calls on a reader that is kept in words (specs/Claims.antt). Assumes nothing.
-use Prim.{Unit, tt}
+use Prim.{tt}
 use Prim.Native.Nat.{ℕ}
-use mathlib.Core.Path.{_≡_, refl, sym, ap, subst, _∙_}
+use mathlib.Core.Path.{_≡_, refl, sym, ap, _∙_}
 use mathlib.Core.Bool.{Bool, true, false, cond}
 use mathlib.Core.List.{List, [], _∷_}
 use native.Mathlib.Omega.{arith}
-use lib.ListN.{length}
 use Rattle.refusals.specs.declared.Refusal.{Refusal}
 use Rattle.refusals.specs.Numbers.{finished, limitTooLarge}
 use Rattle.wire.specs.Bytes.{Bytes}
@@ -32,7 +31,7 @@ use Rattle.capsule.specs.Reader.{opening, fresh, openOf, isOpening, isMakeableP
 use Rattle.capsule.specs.State.{ofBook}
 use Rattle.capsule.proofs.Planning.{zero-one}
 use Rattle.capsule_laws.specs.Claims.{CallBytes}
-use Rattle.capsule_laws.proofs.Lists.{Open, made-book, open-fresh, fresh-book, fresh-open}
+use Rattle.capsule_laws.proofs.Lists.{made-book, open-fresh, fresh-book, fresh-open}
 use Rattle.capsule_laws.proofs.Makeable.{written, state-calls, refused-unchanged}
 use Rattle.capi.specs.declared.words.Loaded.{Loaded}
 use Rattle.capi.specs.declared.words.Loaded.the-variants as loaded

@@ -1,12 +1,11 @@
 -- The stored form of a reader (specs/Claims.antt). Assumes nothing.
-use Prim.Native.Nat.{ℕ, _≤_}
-use mathlib.Core.Path.{_≡_, refl, sym, ap, _∙_}
+use Prim.Native.Nat.{ℕ}
+use mathlib.Core.Path.{_≡_, refl, sym}
 use mathlib.Core.Bool.{Bool, true, false, cond, not, _&&_}
 use mathlib.Core.List.{List, [], _∷_}
 use native.Mathlib.Omega.{arith}
-use lib.ListN.{length}
 use lib.Dec.{leb, eqb}
-use borrow.Author.Tests.{le-leb, leb-true, eqb-true, eqb-false, eq-eqb}
+use borrow.Author.Tests.{le-leb, leb-true, eqb-true, eqb-false}
 use Rattle.wire.specs.Partial.{partial}
 use Rattle.wire.proofs.Parts.{parted}
 use Rattle.capsule.specs.declared.opening.Role.{Role}
@@ -17,7 +16,6 @@ use Rattle.capsule.specs.declared.reader.Reader.{Reader}
 use Rattle.capsule.proofs.Planning.{zero-one}
 use Rattle.capi.specs.declared.words.LoadedPhase.{LoadedPhase}
 use Rattle.capi.specs.declared.words.LoadedPhase.the-variants as phase
-use Rattle.capi.specs.declared.words.Loaded.{Loaded}
 use Rattle.capi.specs.declared.words.Loaded.the-variants as loaded
 use Rattle.capi.specs.Numbers.{flagOf, bitOf, roleOf}
 use Rattle.capi.specs.Words.{roleNumber, phaseWords, wordsOf, phaseIn, withPhase, readerIn}
@@ -63,14 +61,25 @@ bit-there n small = go (eqb n 0) refl
 
 -- ---- what was stored is read back
 
+record Stored (x : Phase) : Type 0 where
+  kind : ℕ
+  first : ℕ
+  second : ℕ
+  third : ℕ
+  words : phaseWords x ≡ kind ∷ first ∷ second ∷ third ∷ []
+  back : phaseIn kind first second third ≡ phase.Is x
+
+phase-back : (x : Phase) → HaveIsByte x → Stored x
+unfolding phaseWords phaseIn
+phase-back (InType part) h = record { kind = 0; first = part .have; second = part .raw; third = 0; words = refl; back = rw (le-leb (part .have) 255 h) }
+phase-back (InLength t part) h = record { kind = 1; first = t; second = part .have; third = part .raw; words = refl; back = rw (le-leb (part .have) 255 h) }
+phase-back (InValue t n left) h = record { kind = 2; first = t; second = n; third = left; words = refl; back = refl }
+
 pub stored-read : StoredRead
-unfolding wordsOf readerIn
-stored-read r byte = go (r .phase) byte
-  where
-    go : (x : Phase) → HaveIsByte x → readerIn (wordsOf (record { opening = r .opening; phase = x; finished = r .finished })) ≡ loaded.Is (record { opening = r .opening; phase = x; finished = r .finished })
-    go (InType part) h = unfold phaseWords phaseIn withPhase in simp (role-small (r .opening .role), bit-small (r .opening .draft), bit-small (r .finished), le-leb (part .have) 255 h, role-back (r .opening .role), bit-back (r .opening .draft), bit-back (r .finished))
-    go (InLength t part) h = unfold phaseWords phaseIn withPhase in simp (role-small (r .opening .role), bit-small (r .opening .draft), bit-small (r .finished), le-leb (part .have) 255 h, role-back (r .opening .role), bit-back (r .opening .draft), bit-back (r .finished))
-    go (InValue t n left) h = unfold phaseWords phaseIn withPhase in simp (role-small (r .opening .role), bit-small (r .opening .draft), bit-small (r .finished), role-back (r .opening .role), bit-back (r .opening .draft), bit-back (r .finished))
+unfolding wordsOf readerIn withPhase
+stored-read r byte =
+    let q = phase-back (r .phase) byte in
+    rw (q .words, role-small (r .opening .role), bit-small (r .opening .draft), bit-small (r .finished), q .back, role-back (r .opening .role), bit-back (r .opening .draft), bit-back (r .finished))
 
 -- ---- nothing else is read as that reader
 

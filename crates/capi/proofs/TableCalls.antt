@@ -1,7 +1,7 @@
 -- What the calls on a table in rows come to. Assumes nothing.
 use Prim.Native.Nat.{ℕ, _<_}
-use mathlib.Core.Path.{_≡_, refl, sym, ap, _∙_}
-use mathlib.Core.Bool.{Bool, true, false, cond}
+use mathlib.Core.Path.{_≡_, refl, sym, _∙_}
+use mathlib.Core.Bool.{Bool, true, false}
 use mathlib.Core.List.{List}
 use native.Mathlib.Omega.{arith}
 use lib.ListN.{length}
@@ -25,7 +25,6 @@ use Rattle.streams.proofs.Places.{find-right}
 use Rattle.streams.proofs.Decisions.{closes}
 use Rattle.streams.proofs.Openings.{lowest-taken}
 use Rattle.capi.specs.declared.table.OpenedAnswer.{OpenedAnswer}
-use Rattle.capi.specs.declared.table.SideClosedAnswer.{SideClosedAnswer}
 use Rattle.capi.specs.Numbers.{flagOf, sideOf, bitOf}
 use Rattle.capi.specs.Table.{Rows, rows, rowsStored, rowsWith, streamId, openedAnswer, rowsOpened, opened, openRows, closedAnswer, rowsClosed, closed, closeRows}
 

@@ -2,7 +2,7 @@
 use Prim.{Unit}
 use Prim.Native.Nat.{ℕ, _+_, _≤_}
 use mathlib.Core.Path.{_≡_}
-use mathlib.Core.Bool.{Bool, true, false}
+use mathlib.Core.Bool.{Bool, true}
 use mathlib.Core.List.{List}
 use lib.ListN.{length, take, drop}
 use Rattle.wire.specs.declared.units.StreamId.{StreamId}
@@ -17,15 +17,15 @@ use Rattle.capsule.specs.Reader.{isMakeable, openOf, feedOf, closeOf}
 use Rattle.streams.specs.declared.table.Opening.{Opening}
 use Rattle.streams.specs.declared.table.Closing.{Closing}
 use Rattle.streams.specs.Tables.{tableOpened, tableClosed}
-use Rattle.streams.specs.Rows.{tableOf, isBadRows, openingRows, closingRows}
+use Rattle.streams.specs.Rows.{tableOf}
 use Rattle.datagram.specs.Judging.{judgedRows, payloadRows}
 use Rattle.datagram.specs.Sending.{writeCapsuleRows, writeFrameRows}
 use Rattle.capi.specs.declared.words.Loaded.the-variants.{Is}
-use Rattle.capi.specs.Numbers.{roleOf, flagOf, sideOf}
+use Rattle.capi.specs.Numbers.{roleOf, flagOf}
 use Rattle.capi.specs.Varint.{wroteBy}
 use Rattle.capi.specs.Words.{wordsOf, readerIn}
-use Rattle.capi.specs.Reader.{OpenDone, openWords, FeedDone, fedAnswer, feedWords, CloseDone, closedAnswer, closeWords}
-use Rattle.capi.specs.Table.{Rows, rows, streamId, rowsOpened, openRows, rowsClosed, closeRows}
+use Rattle.capi.specs.Reader.{openWords, fedAnswer, feedWords, closedAnswer, closeWords}
+use Rattle.capi.specs.Table.{rows, rowsOpened, openRows, rowsClosed, closeRows}
 use Rattle.capi.specs.Frames.{judgedAnswer}
 
 -- ---- the stored form of a reader (proofs/StoredForm.antt)

@@ -1,6 +1,6 @@
 -- A judged QUIC DATAGRAM payload, in numbers. `judgedRows` (crate datagram) judges.
 use Prim.Native.Nat.{ℕ, _-_}
-use mathlib.Core.Option.{Option, none, some}
+use mathlib.Core.Option.{none, some}
 use mathlib.Core.List.{List}
 use lib.ListN.{length}
 use Rattle.wire.specs.declared.varint.Varint.{Varint}

@@ -1,4 +1,4 @@
-use mathlib.Core.Path.{ap, _∙_}
+use mathlib.Core.Path.{ap}
 use Rattle.capi.specs.Varint.{wroteBy}
 use borrow.Author.Needs.{needs}
 use Rattle.capi.proofs.frames.mrz_write_frame.Statement.{statement}

@@ -5,8 +5,6 @@ use Rattle.capi.specs.Numbers.{errorNumber}
 use Rattle.capi.specs.Frames.{ruleNumber}
 use Rattle.capi.proofs.frames.part.Statement.{statement}
 use Rattle.capi.proofs.frames.part.Tie as tie
-use Rattle.capi.proofs.frames.part.Reads as reads
-use Rattle.capi.proofs.frames.part.Lts as lts
 
 returns : tie.Need-returns
 unfolding ruleNumber ruleOf errorNumber judgedError

@@ -1,4 +1,3 @@
-use Rattle.capi.specs.Numbers.{bitOf}
 use borrow.Author.Needs.{needs}
 use Rattle.capi.proofs.messages.mrz_field_counts.Statement.{statement}
 use Rattle.capi.proofs.messages.mrz_field_counts.Tie as tie

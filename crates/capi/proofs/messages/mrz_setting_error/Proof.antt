@@ -1,4 +1,3 @@
-use Rattle.capi.specs.Numbers.{errorNumber}
 use borrow.Author.Needs.{needs}
 use Rattle.capi.proofs.messages.mrz_setting_error.Statement.{statement}
 use Rattle.capi.proofs.messages.mrz_setting_error.Tie as tie

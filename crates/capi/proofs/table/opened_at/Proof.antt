@@ -1,4 +1,3 @@
-use borrow.Author.Needs.{needs}
 use mathlib.Core.Path.{refl}
 use Rattle.capi.specs.Table.{openedAnswer}
 use Rattle.capi.proofs.table.opened_at.Statement.{statement}
