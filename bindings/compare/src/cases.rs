@@ -1,5 +1,6 @@
-//! Calls made from a seed, in cases of some dozens to some thousands of calls.
+//! Calls on all small inputs, and calls made from a seed, in cases of some dozens to some thousands.
 
+mod exhaustive;
 mod small;
 mod streams;
 mod tables;
@@ -8,6 +9,8 @@ mod words;
 use independent::Random;
 
 use crate::{Comparison, Difference, Lent};
+
+pub use exhaustive::exhaustive;
 
 /// What a case is meant to try.
 #[derive(Clone, Copy, Debug, PartialEq, Eq)]

@@ -4,16 +4,18 @@ use std::env;
 use std::process::ExitCode;
 use std::time::{Instant, SystemTime, UNIX_EPOCH};
 
-use compare::{cases, Comparison};
+use compare::{cases, Comparison, Difference};
 use independent::Random;
 
-const USAGE: &str = "usage: compare_calls [--calls N] [--seed HEX] [--case NUMBER]";
+const USAGE: &str = "usage: compare_calls [--calls N] [--seed HEX] [--random-only] [--case NUMBER]";
 const FIXED_SEED: u64 = 0x9297_9000;
 
 struct Options {
-    /// How many calls are made at least, half from each seed.
+    /// How many calls are made from the two seeds at least, half from each.
     calls: u64,
     seed: Option<u64>,
+    /// Leaves out the small inputs.
+    random_only: bool,
     /// The one case of the given seed to run.
     case: Option<u64>,
 }
@@ -22,12 +24,14 @@ fn options(mut arguments: impl Iterator<Item = String>) -> Option<Options> {
     let mut options = Options {
         calls: 12_000_000,
         seed: None,
+        random_only: false,
         case: None,
     };
     while let Some(argument) = arguments.next() {
         match argument.as_str() {
             "--calls" => options.calls = arguments.next()?.parse().ok()?,
             "--seed" => options.seed = Some(u64::from_str_radix(&arguments.next()?, 16).ok()?),
+            "--random-only" => options.random_only = true,
             "--case" => options.case = Some(arguments.next()?.parse().ok()?),
             _ => return None,
         }
@@ -42,19 +46,22 @@ fn seed_from_clock() -> u64 {
     Random::new(time.as_nanos() as u64).number()
 }
 
+/// Says what differed, if anything did. Answers whether nothing did.
+fn same(outcome: Result<(), Box<Difference>>, what: &str, comparison: &Comparison) -> bool {
+    let Err(difference) = outcome else {
+        return true;
+    };
+    println!("{what}: {difference}");
+    let calls = comparison.calls() + 1;
+    println!("compared {calls} calls, 1 difference");
+    false
+}
+
 /// Runs one case. Answers whether nothing differed.
 fn run(seed: u64, number: u64, comparison: &mut Comparison) -> bool {
-    match cases::run(seed, number, comparison) {
-        Ok(()) => true,
-        Err(difference) => {
-            let kind = cases::kind(number);
-            println!("seed {seed:x}, case {number} ({kind:?}): {difference}");
-            println!("run it again with --seed {seed:x} --case {number}");
-            let calls = comparison.calls() + 1;
-            println!("compared {calls} calls, 1 difference");
-            false
-        }
-    }
+    let kind = cases::kind(number);
+    let what = format!("{kind:?}, to be made again by --seed {seed:x} --case {number}");
+    same(cases::run(seed, number, comparison), &what, comparison)
 }
 
 fn main() -> ExitCode {
@@ -79,7 +86,15 @@ fn main() -> ExitCode {
         "from the clock"
     };
     println!("seeds {FIXED_SEED:x} (fixed) and {seed:x} ({origin})");
-    for (seed, until) in [(FIXED_SEED, options.calls / 2), (seed, options.calls)] {
+    if !options.random_only {
+        let outcome = cases::exhaustive(&mut comparison);
+        if !same(outcome, "small inputs", &comparison) {
+            return ExitCode::FAILURE;
+        }
+        println!("all small inputs: {} calls", comparison.calls());
+    }
+    for seed in [FIXED_SEED, seed] {
+        let until = comparison.calls() + options.calls / 2;
         let mut number = 0;
         while comparison.calls() < until {
             if !run(seed, number, &mut comparison) {
