@@ -187,3 +187,12 @@ fn numbers_listings_and_http() {
     assert!(http::field_counts_on_request() && http::field_counts_on_response(101));
     assert!(!http::field_counts_on_response(300));
 }
+
+/// What the header says of the stack, on the buffer with the most capsules.
+#[test]
+fn a_listing_needs_at_most_256_kib_of_stack() {
+    let thread = std::thread::Builder::new().stack_size(256 * 1024);
+    let listed = thread.spawn(|| list(&[0; 4_096])).unwrap().join().unwrap();
+    let listing = listed.unwrap();
+    assert_eq!((listing.capsules, listing.headers), (2_048, 4_096));
+}
