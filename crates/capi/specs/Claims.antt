@@ -2,7 +2,7 @@
 use Prim.{Unit}
 use Prim.Native.Nat.{ℕ, _+_, _≤_}
 use mathlib.Core.Path.{_≡_}
-use mathlib.Core.Bool.{Bool, true}
+use mathlib.Core.Bool.{Bool, true, false}
 use mathlib.Core.List.{List}
 use lib.ListN.{length, take, drop}
 use Rattle.wire.specs.declared.units.StreamId.{StreamId}
@@ -17,7 +17,7 @@ use Rattle.capsule.specs.Reader.{isMakeable, openOf, feedOf, closeOf}
 use Rattle.streams.specs.declared.table.Opening.{Opening}
 use Rattle.streams.specs.declared.table.Closing.{Closing}
 use Rattle.streams.specs.Tables.{tableOpened, tableClosed}
-use Rattle.streams.specs.Rows.{tableOf}
+use Rattle.streams.specs.Rows.{tableOf, isBadRows}
 use Rattle.datagram.specs.Judging.{judgedRows, payloadRows}
 use Rattle.datagram.specs.Sending.{writeCapsuleRows, writeFrameRows}
 use Rattle.capi.specs.declared.words.Loaded.the-variants.{Is}
@@ -84,6 +84,14 @@ RowsAreTable =
     (qs ms : List ℕ)
     → ((id : StreamId) (semantics : Bool) (o : Opening) → let after = rowsOpened qs ms id semantics o in tableOf (after .quarters) (after .marks) ≡ tableOpened (tableOf qs ms) id semantics o)
     × ((c : Closing) → let after = rowsClosed qs ms c in tableOf (after .quarters) (after .marks) ≡ tableClosed (tableOf qs ms) c)
+
+-- good rows stay good: of one length, and no bad table
+abbrev pub RowsStayGood : Type 0
+RowsStayGood =
+    (qs ms : List ℕ) (id x : ℕ)
+    → isBadRows qs ms ≡ false
+    → (isBadRows (openRows qs ms id x .table .quarters) (openRows qs ms id x .table .marks) ≡ false)
+    × (isBadRows (closeRows qs ms id x .table .quarters) (closeRows qs ms id x .table .marks) ≡ false)
 
 -- a refusal leaves both rows
 abbrev pub RefusedTableLeaves : Type 0
