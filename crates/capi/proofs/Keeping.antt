@@ -1,12 +1,11 @@
 -- Calls on a reader that is kept in words (specs/Claims.antt). Assumes nothing.
 use Prim.{tt}
 use Prim.Native.Nat.{ℕ}
-use mathlib.Core.Path.{_≡_, refl, sym, ap, _∙_}
+use mathlib.Core.Path.{_≡_, refl, sym, ap, subst, _∙_}
 use mathlib.Core.Bool.{Bool, true, false, cond}
 use mathlib.Core.List.{List, [], _∷_}
 use native.Mathlib.Omega.{arith}
-use Rattle.refusals.specs.declared.Refusal.{Refusal}
-use Rattle.refusals.specs.Numbers.{finished, limitTooLarge}
+use Rattle.refusals.specs.Numbers.{finished}
 use Rattle.wire.specs.Bytes.{Bytes}
 use Rattle.wire.proofs.Parts.{parted, starts-le}
 use Rattle.wire.specs.Partial.{isPartial}
@@ -27,9 +26,8 @@ use Rattle.capsule.specs.declared.reader.CloseAnswer.{CloseAnswer}
 use Rattle.capsule.specs.declared.reader.CloseAnswer.the-variants as closedAs
 use Rattle.capsule.specs.Book.{Book, newBook, bookCall}
 use Rattle.capsule.specs.Calls.{Lent, Call, feed, close, run}
-use Rattle.capsule.specs.Reader.{opening, fresh, openOf, isOpening, isMakeablePhase, isMakeable, feedOf, endAt, closing, closeOf, readerCall}
+use Rattle.capsule.specs.Reader.{opening, openOf, isOpening, isMakeablePhase, isMakeable, feedOf, endAt, closing, closeOf, readerCall}
 use Rattle.capsule.specs.State.{ofBook}
-use Rattle.capsule.proofs.Planning.{zero-one}
 use Rattle.capsule_laws.specs.Claims.{CallBytes}
 use Rattle.capsule_laws.proofs.Lists.{made-book, open-fresh, fresh-book, fresh-open}
 use Rattle.capsule_laws.proofs.Makeable.{written, state-calls, refused-unchanged}
@@ -38,8 +36,9 @@ use Rattle.capi.specs.declared.words.Loaded.the-variants as loaded
 use Rattle.capi.specs.Numbers.{roleOf, flagOf}
 use Rattle.capi.specs.Words.{wordsOf, readerIn}
 use Rattle.capi.specs.Reader.{openedAt, openWords, FeedDone, fedReport, fedTook, fedAnswer, wordsFed, fedBy, feedLoaded, feedWords, CloseDone, closedAnswer, wordsClosed, closeRefusal, closedBy, closeLoaded, closeWords}
-use Rattle.capi.specs.Claims.{HaveIsByte, RefusedReaderLeaves, OpenKept, FeedKept, CloseKept, ReaderKept}
+use Rattle.capi.specs.Claims.{HaveIsByte, NotZero, OpenedSo, RefusedReaderLeaves, OpenKept, FeedKept, CloseKept, ReaderKept}
 use Rattle.capi.proofs.StoredForm.{stored-read}
+use Rattle.capi.proofs.Nonzero.{numbered-refusals}
 
 -- ---- a refusal leaves words and buffers
 
@@ -105,14 +104,6 @@ stays-makeable r c m h =
     let e : readerCall r c .0 ≡ ofBook (run bookCall k (c ∷ []) .0) = ap (λ (x : Reader). readerCall x c .0) (sym (w .is)) ∙ s .0 in
     rw e (made-book (run bookCall k (c ∷ []) .0) (s .1))
 
-refused-limit : (role : Role) (limit : ℕ) (draft : Bool) (why : Refusal) → openOf role limit draft ≡ openedAs.Refused why → why .0 ≡ 3
-unfolding openOf
-refused-limit role limit draft why e = go (isOpening (opening role limit draft)) e
-  where
-    go : (t : Bool) → cond t (openedAs.Ready (fresh (opening role limit draft))) (openedAs.Refused limitTooLarge) ≡ openedAs.Refused why → why .0 ≡ 3
-    go true d = zero-one (cc)
-    go false d = let s : limitTooLarge ≡ why = cc in ap (λ (x : Refusal). x .0) (sym s)
-
 open-makeable : (role : Role) (limit : ℕ) (draft : Bool) (r : Reader) → openOf role limit draft ≡ openedAs.Ready r → isMakeable r ≡ true
 open-makeable role limit draft r e =
     let f = open-fresh role limit draft r e in
@@ -125,7 +116,9 @@ open-kept ws role limit draft z = go (openOf (roleOf role) limit (flagOf draft))
   where
     go : (o : Opened) → openOf (roleOf role) limit (flagOf draft) ≡ o → openedAt ws o .answer ≡ 0
         → (r : Reader) × (openOf (roleOf role) limit (flagOf draft) ≡ openedAs.Ready r) × (openedAt ws o .words ≡ wordsOf r) × (isMakeable r ≡ true)
-    go (openedAs.Refused why) e n = absurd (unfold openedAt in omega (arith, refused-limit (roleOf role) limit (flagOf draft) why e, n))
+    go (openedAs.Refused why) e n =
+        let so : NotZero why = subst (λ (x : Opened). OpenedSo x) e (numbered-refusals .opens (roleOf role) limit (flagOf draft)) in
+        absurd (so (unfold openedAt in n))
     go (openedAs.Ready r) e n = (r, e, unfold openedAt in refl, open-makeable (roleOf role) limit (flagOf draft) r e)
 
 module _ (r : Reader) (m : isMakeable r ≡ true) where

@@ -5,21 +5,41 @@ use mathlib.Core.Path.{_≡_}
 use mathlib.Core.Bool.{Bool, true, false}
 use mathlib.Core.List.{List}
 use lib.ListN.{length, take, drop}
+use Rattle.refusals.specs.declared.Refusal.{Refusal}
 use Rattle.wire.specs.declared.units.StreamId.{StreamId}
+use Rattle.wire.specs.declared.varint.Written.{Written}
+use Rattle.wire.specs.declared.varint.Written.the-variants as writtenAs
 use Rattle.wire.specs.Bytes.{Bytes}
 use Rattle.wire.specs.Writing.{Writing, writeVarint}
+use Rattle.capsule.specs.declared.opening.Role.{Role}
 use Rattle.capsule.specs.declared.reader.Phase.{Phase}
 use Rattle.capsule.specs.declared.reader.Phase.the-variants.{InType, InLength, InValue}
 use Rattle.capsule.specs.declared.reader.Reader.{Reader}
-use Rattle.capsule.specs.declared.reader.Opened.the-variants.{Ready}
+use Rattle.capsule.specs.declared.reader.Opened.{Opened}
+use Rattle.capsule.specs.declared.reader.Opened.the-variants as openedAs
+use Rattle.capsule.specs.declared.reader.FeedAnswer.{FeedAnswer}
+use Rattle.capsule.specs.declared.reader.FeedAnswer.the-variants as fedAs
+use Rattle.capsule.specs.declared.reader.CloseAnswer.{CloseAnswer}
+use Rattle.capsule.specs.declared.reader.CloseAnswer.the-variants as closedAs
 use Rattle.capsule.specs.Calls.{Lent}
 use Rattle.capsule.specs.Reader.{isMakeable, openOf, feedOf, closeOf}
+use Rattle.streams.specs.declared.record.Side.{Side}
 use Rattle.streams.specs.declared.table.Opening.{Opening}
+use Rattle.streams.specs.declared.table.Opening.the-variants as openingAs
 use Rattle.streams.specs.declared.table.Closing.{Closing}
+use Rattle.streams.specs.declared.table.Closing.the-variants as closingAs
 use Rattle.streams.specs.Tables.{tableOpened, tableClosed}
-use Rattle.streams.specs.Rows.{tableOf, isBadRows}
+use Rattle.streams.specs.Rows.{tableOf, isBadRows, openingRows, closingRows}
+use Rattle.datagram.specs.declared.judge.Judged.{Judged}
+use Rattle.datagram.specs.declared.judge.Judged.the-variants as judged
 use Rattle.datagram.specs.Judging.{judgedRows, payloadRows}
 use Rattle.datagram.specs.Sending.{writeCapsuleRows, writeFrameRows}
+use Rattle.listing.specs.declared.Listed.{Listed}
+use Rattle.listing.specs.declared.Listed.the-variants as listed
+use Rattle.listing.specs.Listing.{listingOf}
+use Rattle.http.specs.declared.translation.Translation.{Translation}
+use Rattle.http.specs.declared.translation.Translation.the-variants as translation
+use Rattle.http.specs.Translation.{translated}
 use Rattle.capi.specs.declared.words.Loaded.the-variants.{Is}
 use Rattle.capi.specs.Numbers.{roleOf, flagOf}
 use Rattle.capi.specs.Varint.{wroteBy}
@@ -59,7 +79,7 @@ abbrev pub OpenKept : Type 0
 OpenKept =
     (ws : List ℕ) (role limit draft : ℕ)
     → openWords ws role limit draft .answer ≡ 0
-    → (r : Reader) × (openOf (roleOf role) limit (flagOf draft) ≡ Ready r) × (openWords ws role limit draft .words ≡ wordsOf r) × (isMakeable r ≡ true)
+    → (r : Reader) × (openOf (roleOf role) limit (flagOf draft) ≡ openedAs.Ready r) × (openWords ws role limit draft .words ≡ wordsOf r) × (isMakeable r ≡ true)
 
 -- on the words of a reader that can be made, a call is that of the reader, and the words afterwards are those of its state, which can be made again
 pub record FeedKept (r : Reader) (p : List ℕ) (b : Lent) : Type 0 where
@@ -119,3 +139,65 @@ RefusedWriteLeaves =
     → ((n : ℕ) → RefusalLeaves (writeVarint n out place) out)
     × ((qs ms : List ℕ) (id : StreamId) (payload : List ℕ) → RefusalLeaves (writeCapsuleRows qs ms id payload out place) out)
     × ((qs ms : List ℕ) (id : StreamId) (ours peers path : ℕ) (payload : List ℕ) → RefusalLeaves (writeFrameRows qs ms id ours peers path payload out place) out)
+
+-- ---- 0 says "not refused": no refusal has that number (proofs/Nonzero.antt)
+
+abbrev pub NotZero : Refusal → Type 0
+NotZero why = why .0 ≡ 0 → ⊥
+
+abbrev pub OpenedSo : Opened → Type 0
+OpenedSo (openedAs.Refused why) = NotZero why
+OpenedSo (openedAs.Ready r) = Unit {0}
+
+abbrev pub FedSo : FeedAnswer → Type 0
+FedSo (fedAs.Refused why) = NotZero why
+FedSo (fedAs.Took consumed written ended) = Unit {0}
+
+abbrev pub ClosedSo : CloseAnswer → Type 0
+ClosedSo (closedAs.Refused why) = NotZero why
+ClosedSo closedAs.Clean = Unit {0}
+ClosedSo closedAs.Truncated = Unit {0}
+
+abbrev pub ListedSo : Listed → Type 0
+ListedSo (listed.Refused why) = NotZero why
+ListedSo (listed.Counted capsules headers ending) = Unit {0}
+
+abbrev pub WrittenSo : Written → Type 0
+WrittenSo (writtenAs.Refused why) = NotZero why
+WrittenSo (writtenAs.Wrote count) = Unit {0}
+
+abbrev pub OpeningSo : Opening → Type 0
+OpeningSo (openingAs.Refused why) = NotZero why
+OpeningSo (openingAs.Opened i) = Unit {0}
+
+abbrev pub ClosingSo : Closing → Type 0
+ClosingSo (closingAs.Refused why) = NotZero why
+ClosingSo (closingAs.Closed i r freed) = Unit {0}
+
+abbrev pub JudgedSo : Judged → Type 0
+JudgedSo (judged.Refused why) = NotZero why
+JudgedSo judged.ShortFrame = Unit {0}
+JudgedSo judged.QuarterTooLarge = Unit {0}
+JudgedSo judged.BeyondLimit = Unit {0}
+JudgedSo judged.NoStream = Unit {0}
+JudgedSo judged.ReceiveClosed = Unit {0}
+JudgedSo judged.NoSemantics = Unit {0}
+JudgedSo judged.TooLong = Unit {0}
+JudgedSo (judged.Delivered place) = Unit {0}
+
+abbrev pub TranslatedSo : Translation → Type 0
+TranslatedSo (translation.Refused why) = NotZero why
+TranslatedSo (translation.Becomes action) = Unit {0}
+
+pub record NumberedRefusals : Type 0 where
+  pub opens : (role : Role) (limit : ℕ) (draft : Bool) → OpenedSo (openOf role limit draft)
+  pub feeds : (r : Reader) (p : List ℕ) (b : Lent) → FedSo (feedOf r p b .answer)
+  pub closes : (r : Reader) → ClosedSo (closeOf r .answer)
+  pub lists : (s : List ℕ) → ListedSo (listingOf s)
+  pub writes-varint : (n : ℕ) (out : List ℕ) (place : ℕ) → WrittenSo (writeVarint n out place .answer)
+  pub opens-stream : (qs ms : List ℕ) (id : StreamId) → OpeningSo (openingRows qs ms id)
+  pub closes-side : (qs ms : List ℕ) (id : StreamId) (side : Side) → ClosingSo (closingRows qs ms id side)
+  pub judges : (qs ms : List ℕ) (streams limit : ℕ) (frame : List ℕ) → JudgedSo (judgedRows qs ms streams limit frame)
+  pub writes-capsule : (qs ms : List ℕ) (id : StreamId) (payload out : List ℕ) (place : ℕ) → WrittenSo (writeCapsuleRows qs ms id payload out place .answer)
+  pub writes-frame : (qs ms : List ℕ) (id : StreamId) (ours peers path : ℕ) (payload out : List ℕ) (place : ℕ) → WrittenSo (writeFrameRows qs ms id ours peers path payload out place .answer)
+  pub translates : (error version : ℕ) → TranslatedSo (translated error version)
