@@ -119,7 +119,8 @@ fn main() -> ExitCode {
         eprintln!("usage: bench [PLOT.svg]");
         return ExitCode::from(2);
     }
-    println!("Each figure is the least of 21 rounds in which both sides have their turn. Buffers are not cleared between passes.\n");
+    let rounds = measure::ROUNDS;
+    println!("Each figure is the least of {rounds} rounds in which all sides have their turn. Buffers are not cleared between passes.\n");
     println!("## Feeding\n");
     feeding();
     rows("Reading varints", varints::rows());

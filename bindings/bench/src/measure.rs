@@ -5,7 +5,7 @@ use std::time::{Duration, Instant};
 
 /// How long one sample takes at least.
 const SAMPLE: Duration = Duration::from_micros(1_500);
-const ROUNDS: usize = 21;
+pub const ROUNDS: usize = 41;
 
 /// A piece of work that is done again and again. It answers a number, so that none of it is left out.
 pub type Work<'a> = Box<dyn FnMut() -> u64 + 'a>;
