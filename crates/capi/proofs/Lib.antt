@@ -5,3 +5,4 @@ pub mod Payloads
 pub mod Nonzero
 pub mod ReaderCalls
 pub mod TableCalls
+pub mod ShortWords

@@ -2,6 +2,7 @@ pub mod Numbers
 pub mod Varint
 pub mod Words
 pub mod Reader
+pub mod Standing
 pub mod OneShot
 pub mod Table
 pub mod Frames

@@ -7,6 +7,7 @@ use lib.Dec.{leb, eqb}
 use Rattle.wire.specs.Partial.{partial}
 use Rattle.capsule.specs.declared.opening.Role.{Role}
 use Rattle.capsule.specs.declared.opening.Role.the-variants.{Endpoint, Intermediary}
+use Rattle.capsule.specs.declared.opening.Opening.{Opening}
 use Rattle.capsule.specs.declared.reader.Phase.{Phase}
 use Rattle.capsule.specs.declared.reader.Phase.the-variants.{InType, InLength, InValue}
 use Rattle.capsule.specs.declared.reader.Reader.{Reader}
@@ -42,6 +43,9 @@ phaseIn kind a b c =
     (cond (eqb kind 1)
     (cond (leb b 255) (phase.Is (InLength a (partial b c))) phase.Nothing)
     (cond (eqb kind 2) (phase.Is (InValue a b c)) phase.Nothing))
+
+unfoldable pub openingIn : List ℕ → Opening
+openingIn ws = opening (roleOf (getD ws 0 0)) (getD ws 1 0) (flagOf (getD ws 2 0))
 
 unfoldable pub withPhase : ℕ → ℕ → ℕ → ℕ → LoadedPhase → Loaded
 withPhase role limit draft finished phase.Nothing = loaded.Nothing

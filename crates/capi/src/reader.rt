@@ -1,13 +1,23 @@
 // The capsule reader, kept in the host's words.
 ghost use mathlib.Core.Path.{_≡_};
 ghost use Rattle.capsule.specs.Calls.{lent};
+ghost use lib.ListN.{getD};
+ghost use Rattle.capsule.specs.Reader.{fresh};
+ghost use Rattle.capsule.specs.Short.{inValue};
+ghost use Rattle.capi.specs.declared.words.Loaded.the-variants.{Is};
+ghost use Rattle.capi.specs.Words.{readerIn, openingIn};
+ghost use Rattle.capi.specs.Standing.{TriedRight};
 ghost use Rattle.capi.specs.Reader.{opened, openWords, fedRefused, fedReport, fedTook, fed, feedWords, closedAnswer, closed, closeWords};
 use crate::numbers::error_number;
 use crate::numbers::flag_of;
 use crate::numbers::refusal_number;
 use crate::numbers::role_of;
 use crate::words::Loaded;
+use crate::words::Standing;
+use crate::words::copied;
 use crate::words::load;
+use crate::words::opening_in;
+use crate::words::standing_of;
 use crate::words::store;
 use capsule::opening::Report;
 use capsule::reader::CloseAnswer;
@@ -15,6 +25,8 @@ use capsule::reader::Ended;
 use capsule::reader::FeedAnswer;
 use capsule::reader::Opened;
 use capsule::reader::Reader;
+use capsule::short::Inside;
+use capsule::short::Whole;
 use http::ties::close_error;
 use refusals::Refusal;
 
@@ -119,8 +131,8 @@ fn fed_took(consumed: usize, written: usize, ended: Ended) -> FedAnswer
     }
 }
 
-#[no_mangle]
-pub extern "C" fn mrz_reader_feed(
+// The general way.
+fn feed_loaded(
     words: &mut [u64; 8],
     piece: &[u8],
     gathering: &mut [u8],
@@ -146,6 +158,74 @@ pub extern "C" fn mrz_reader_feed(
                 }
             }
         }
+    }
+}
+
+// What came of trying a short way.
+pub enum Tried {
+    // nothing was changed
+    Not,
+    Fed(FedAnswer),
+}
+
+// The words of an open reader between two capsules: most feedings find a whole capsule there, and leave the words as they are.
+fn try_between(words: &mut [u64; 8], piece: &[u8], gathering: &mut [u8], output: &mut [u8]) -> Tried
+    requires { ⌜ readerIn (now words) ≡ Is (fresh (openingIn (now words))) ⌝ }
+    ensures { λ r. ⌜ TriedRight (now (words .entry)) (now (piece .entry)) (lent (now (gathering .entry)) (now (output .entry))) r (now (words .exit)) (lent (now (gathering .exit)) (now (output .exit))) ⌝ }
+{
+    let opening = opening_in(words);
+    match opening.feed_whole(piece, gathering, output) {
+        Whole::Not => Tried::Not,
+        Whole::Took {
+            consumed,
+            written,
+            report,
+        } => {
+            copied(words);
+            Tried::Fed(fed_report(consumed, written, report))
+        }
+    }
+}
+
+// The words of an open reader within a value: most pieces of a long one lie within it.
+fn try_within(words: &mut [u64; 8], piece: &[u8], gathering: &mut [u8], output: &mut [u8]) -> Tried
+    requires { ⌜ readerIn (now words) ≡ Is (inValue (openingIn (now words)) (getD (now words) 4 0) (getD (now words) 5 0) (getD (now words) 6 0)) ⌝ }
+    ensures { λ r. ⌜ TriedRight (now (words .entry)) (now (piece .entry)) (lent (now (gathering .entry)) (now (output .entry))) r (now (words .exit)) (lent (now (gathering .exit)) (now (output .exit))) ⌝ }
+{
+    let opening = opening_in(words);
+    let left = words[6];
+    match opening.feed_inside(words[4], words[5], left, piece, gathering, output) {
+        Inside::Not => Tried::Not,
+        Inside::Took { written } => {
+            copied(words);
+            words[6] = left - (piece.len() as u64);
+            Tried::Fed(fed_took(piece.len(), written, Ended::Nothing))
+        }
+    }
+}
+
+fn try_short(words: &mut [u64; 8], piece: &[u8], gathering: &mut [u8], output: &mut [u8]) -> Tried
+    ensures { λ r. ⌜ TriedRight (now (words .entry)) (now (piece .entry)) (lent (now (gathering .entry)) (now (output .entry))) r (now (words .exit)) (lent (now (gathering .exit)) (now (output .exit))) ⌝ }
+{
+    match standing_of(words) {
+        Standing::Other => Tried::Not,
+        Standing::Between => try_between(words, piece, gathering, output),
+        Standing::Within => try_within(words, piece, gathering, output),
+    }
+}
+
+#[no_mangle]
+pub extern "C" fn mrz_reader_feed(
+    words: &mut [u64; 8],
+    piece: &[u8],
+    gathering: &mut [u8],
+    output: &mut [u8],
+) -> FedAnswer
+    ensures { λ r. ⌜ fed r (now (words .exit)) (lent (now (gathering .exit)) (now (output .exit))) ≡ feedWords (now (words .entry)) (now (piece .entry)) (lent (now (gathering .entry)) (now (output .entry))) ⌝ }
+{
+    match try_short(words, piece, gathering, output) {
+        Tried::Fed(answer) => answer,
+        Tried::Not => feed_loaded(words, piece, gathering, output),
     }
 }
 

@@ -1,6 +1,7 @@
 // A reader kept in eight words of the host's (see specs/Words.antt).
 ghost use mathlib.Core.Path.{_≡_};
-ghost use Rattle.capi.specs.Words.{roleNumber, wordsOf, phaseIn, readerIn};
+ghost use Rattle.capi.specs.Words.{roleNumber, wordsOf, phaseIn, readerIn, openingIn};
+ghost use Rattle.capi.specs.Standing.{Stands};
 use crate::numbers::bit_of;
 use crate::numbers::flag_of;
 use crate::numbers::role_of;
@@ -85,6 +86,54 @@ pub(crate) fn load(words: &[u64; 8]) -> Loaded
     }
 }
 
+// Where an open reader stands, as far as a short way goes by it.
+pub enum Standing {
+    Other,
+    Between,
+    Within,
+}
+
+pub(crate) fn standing_of(words: &[u64; 8]) -> Standing
+    ensures { λ r. ⌜ Stands (now (words .entry)) r ⌝ }
+{
+    if words[0] > 1 {
+        return Standing::Other;
+    }
+    if words[2] > 1 {
+        return Standing::Other;
+    }
+    if words[7] != 0 {
+        return Standing::Other;
+    }
+    let kind = words[3];
+    if kind == 2 {
+        return Standing::Within;
+    }
+    if kind != 0 {
+        return Standing::Other;
+    }
+    if words[4] != 0 {
+        return Standing::Other;
+    }
+    if words[5] != 0 {
+        return Standing::Other;
+    }
+    if words[6] != 0 {
+        return Standing::Other;
+    }
+    Standing::Between
+}
+
+pub(crate) fn opening_in(words: &[u64; 8]) -> Opening
+    ensures { λ r. ⌜ r ≡ openingIn (now (words .entry)) ⌝ }
+{
+    Opening {
+        role: role_of(words[0]),
+        limit: words[1],
+        draft: flag_of(words[2]),
+    }
+}
+
 fn role_number(role: Role) -> u64
     ensures { λ r. ⌜ r ≡ roleNumber role ⌝ }
 {
@@ -135,4 +184,11 @@ pub(crate) fn store(words: &mut [u64; 8], reader: Reader)
     ensures { λ _. ⌜ now (words .exit) ≡ wordsOf reader ⌝ }
 {
     *words = words_of(reader);
+}
+
+// The words themselves. A result by value is known to have eight.
+pub(crate) fn copied(words: &[u64; 8]) -> [u64; 8]
+    ensures { λ r. ⌜ r ≡ now (words .entry) ⌝ }
+{
+    *words
 }

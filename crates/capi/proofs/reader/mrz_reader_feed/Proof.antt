@@ -1,41 +1,20 @@
 use mathlib.Core.Path.{sym, _∙_}
-use Rattle.capi.proofs.ReaderCalls.{feed-nothing, feed-kept, feed-stored}
+use Rattle.capi.proofs.ShortWords.{was-nothing, was-fed}
 use borrow.Author.Needs.{needs}
 use Rattle.capi.proofs.reader.mrz_reader_feed.Statement.{statement}
 use Rattle.capi.proofs.reader.mrz_reader_feed.Tie as tie
 
-load-requires : tie.Need-load-requires
-load-requires c κs = search needs
-
-enum-told : tie.Need-enum-told
-enum-told c = search needs
-
-feed-refused-requires : tie.Need-feed-refused-requires
-feed-refused-requires c κs = search needs
-
-enum-known-reader : tie.Need-enum-known-reader
-enum-known-reader c = search needs
-
-feed-requires : tie.Need-feed-requires
-feed-requires c κs = search needs
+try-short-requires : tie.Need-try-short-requires
+try-short-requires c κs = search needs
 
 enum-known-answer : tie.Need-enum-known-answer
 enum-known-answer c = search needs
 
-feed-refused-requires-2 : tie.Need-feed-refused-requires-2
-feed-refused-requires-2 c κs = search needs
+enum-told : tie.Need-enum-told
+enum-told c = search needs
 
-enum-known-answer-2 : tie.Need-enum-known-answer-2
-enum-known-answer-2 c = search needs
-
-store-requires : tie.Need-store-requires
-store-requires c κs = search needs
-
-fed-took-requires : tie.Need-fed-took-requires
-fed-took-requires c κs = search needs
-
-returns : tie.Need-returns
-returns c = feed-nothing _ _ _ _ (sym (c .before .before .before .load .ensures) ∙ c .before .enum-told .given .1) (c .feed-refused .ensures)
+feed-loaded-requires : tie.Need-feed-loaded-requires
+feed-loaded-requires c κs = search needs
 
 same-length : tie.Need-same-length
 same-length c = search needs
@@ -43,8 +22,8 @@ same-length c = search needs
 same-length-2 : tie.Need-same-length-2
 same-length-2 c = search needs
 
-returns-2 : tie.Need-returns-2
-returns-2 c = feed-kept _ _ _ _ _ _ _ _ (sym (c .before .before .before .before .before .before .before .before .before .before .before .before .before .before .load .ensures) ∙ c .before .before .before .before .before .before .before .before .before .before .before .before .reader .given .1) (c .before .before .before .before .before .before .before .before .feed .ensures) _ (c .before .before .answer .given .1) (c .feed-refused2 .ensures)
+returns : tie.Need-returns
+returns c = was-fed _ _ _ _ _ _ _ (c .before .before .before .before .before .before .before .try-short .ensures) (c .before .answer .given .1)
 
 same-length-3 : tie.Need-same-length-3
 same-length-3 c = search needs
@@ -52,27 +31,20 @@ same-length-3 c = search needs
 same-length-4 : tie.Need-same-length-4
 same-length-4 c = search needs
 
-returns-3 : tie.Need-returns-3
-returns-3 c = feed-stored _ _ _ _ _ _ _ _ (sym (c .before .before .before .before .before .before .before .before .before .before .before .before .before .before .before .before .before .load .ensures) ∙ c .before .before .before .before .before .before .before .before .before .before .before .before .before .before .before .reader .given .1) (c .before .before .before .before .before .before .before .before .before .before .before .feed .ensures) _ _ _ _ (c .before .before .before .before .before .answer2 .given .1) (c .fed-took .ensures) (c .before .store .ensures)
+returns-2 : tie.Need-returns-2
+returns-2 c = was-nothing _ _ _ _ _ _ (c .before .before .before .before .before .before .before .before .before .before .before .before .before .before .try-short .ensures) (c .before .before .before .before .before .before .before .before .enum-told .given .1) _ (c .before .before .before .before .feed-loaded .ensures)
 
 pub mrz-reader-feed-spec : {M : Type 1} → statement M
 mrz-reader-feed-spec =
     tie.close
     (tie.spec
-    load-requires
-    enum-told
-    feed-refused-requires
-    enum-known-reader
-    feed-requires
+    try-short-requires
     enum-known-answer
-    feed-refused-requires-2
-    enum-known-answer-2
-    store-requires
-    fed-took-requires
-    returns
+    enum-told
+    feed-loaded-requires
     same-length
     same-length-2
-    returns-2
+    returns
     same-length-3
     same-length-4
-    returns-3)
+    returns-2)

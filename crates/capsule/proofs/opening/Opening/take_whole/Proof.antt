@@ -44,7 +44,7 @@ same-length-2 c = search needs
 returns-2 : tie.Need-returns-2
 returns-2 c =
     let pre = c .before .before .before .before .before .before .before .before .before .before .before .before .before .before .before .pre in
-    whole-taken _ _ _ _ _ _ (pre .1) (c .before .before .before .before .before .before .before .before .before .before .before .before .before .before .shared-slice-known .given 2 .fits) (pre .0) (pre .2) (omega (arith, pre .2)) _ _ _ (c .before .before .before .before .before .before .before .before .before .before .gathers .ensures) (c .before .before .before .before .before .before .before .before .before .forwards .ensures) (c .report .ensures) _ _ _ (c .before .before .before .before .before .before .before .store-bytes .ensures) (c .before .before .before .forward-bytes .ensures)
+    whole-taken _ _ _ _ _ _ (pre .1) (c .before .before .before .before .before .before .before .before .before .before .before .before .before .before .shared-slice-known .given 2 .fits) (pre .0) (omega (arith, pre .2)) _ _ _ (c .before .before .before .before .before .before .before .before .before .before .gathers .ensures) (c .before .before .before .before .before .before .before .before .before .forwards .ensures) (c .report .ensures) _ _ _ (c .before .before .before .before .before .before .before .store-bytes .ensures) (c .before .before .before .forward-bytes .ensures)
 
 pub take-whole-spec : {M : Type 1} → statement M
 take-whole-spec =

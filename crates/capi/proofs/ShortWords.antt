@@ -1,0 +1,106 @@
+-- Short ways on a reader in words. Assumes nothing.
+use Prim.Native.Nat.{ℕ, _-_, _≤_, _<_}
+use mathlib.Core.Path.{_≡_, refl, sym, ap, _∙_}
+use mathlib.Core.List.{List}
+use lib.ListN.{length, getD, set}
+use borrow.Author.Tests.{le-leb}
+use Rattle.capsule.specs.declared.opening.Opening.{Opening}
+use Rattle.capsule.specs.declared.opening.Report.{Report}
+use Rattle.capsule.specs.declared.reader.Ended.the-variants.{Nothing, Capsule}
+use Rattle.capsule.specs.declared.reader.FeedAnswer.the-variants as fedAs
+use Rattle.capsule.specs.declared.short.Whole.the-variants as wholeAs
+use Rattle.capsule.specs.declared.short.Inside.the-variants as insideAs
+use Rattle.capsule.specs.Calls.{Lent}
+use Rattle.capsule.specs.Reader.{fresh}
+use Rattle.capsule.specs.Short.{wholeFed, wholeOf, inValue, insideFed, insideOf}
+use Rattle.capsule.proofs.ShortWays.{whole-fed, whole-not, inside-fed, inside-not}
+use Rattle.capi.specs.declared.words.Loaded.the-variants.{Is}
+use Rattle.capi.specs.declared.words.Standing.the-variants.{Other, Between, Within}
+use Rattle.capi.specs.declared.reader.FedAnswer.{FedAnswer}
+use Rattle.capi.specs.declared.reader.Tried.{Tried}
+use Rattle.capi.specs.declared.reader.Tried.the-variants.{Not, Fed}
+use Rattle.capi.specs.Numbers.{flagOf}
+use Rattle.capi.specs.Words.{phaseWords, wordsOf, phaseIn, withPhase, readerIn, openingIn}
+use Rattle.capi.specs.Reader.{fedReport, fedTook, FeedDone, fed, feedWords}
+use Rattle.capi.specs.Standing.{Stands, TriedRight}
+use Rattle.capi.proofs.StoredForm.{read-as-stored}
+use Rattle.capi.proofs.ReaderCalls.{feed-stored}
+
+-- ---- where an open reader stands
+
+pub stands-other : (ws : List ℕ) → Stands ws Other
+unfolding Stands
+stands-other ws = tt
+
+module _ (ws : List ℕ) (a : getD ws 0 0 ≤ 1) (b : getD ws 2 0 ≤ 1) (c : getD ws 7 0 ≡ 0) where
+  pub stands-between : getD ws 3 0 ≡ 0 → getD ws 4 0 ≡ 0 → getD ws 5 0 ≡ 0 → getD ws 6 0 ≡ 0 → Stands ws Between
+  unfolding Stands readerIn withPhase phaseIn openingIn flagOf
+  stands-between d e f g = rw (le-leb (getD ws 0 0) 1 a, le-leb (getD ws 2 0) 1 b, c, d, e, f, g)
+
+  pub stands-within : getD ws 3 0 ≡ 2 → Stands ws Within
+  unfolding Stands readerIn withPhase phaseIn openingIn flagOf
+  stands-within d = rw (le-leb (getD ws 0 0) 1 a, le-leb (getD ws 2 0) 1 b, c, d)
+
+pub between-reads : (ws : List ℕ) → Stands ws Between → readerIn ws ≡ Is (fresh (openingIn ws))
+unfolding Stands
+between-reads ws s = s
+
+pub within-reads : (ws : List ℕ) → Stands ws Within → readerIn ws ≡ Is (inValue (openingIn ws) (getD ws 4 0) (getD ws 5 0) (getD ws 6 0))
+unfolding Stands
+within-reads ws s = s
+
+-- ---- what was tried
+
+-- of a reader within a value, one word says how many bytes are to come
+stored-left : (op : Opening) (t n left less : ℕ) → set (wordsOf (inValue op t n left)) 6 less ≡ wordsOf (inValue op t n less)
+unfolding wordsOf phaseWords
+stored-left op t n left less = refl
+
+module _ (ws p : List ℕ) (b : Lent) where
+  pub tried-nothing : (ws′ : List ℕ) (d : Lent) → ws′ ≡ ws → d ≡ b → TriedRight ws p b Not ws′ d
+  unfolding TriedRight
+  tried-nothing ws′ d e f = (e, f)
+
+  pub tried-fed : (a : FedAnswer) (ws′ : List ℕ) (d : Lent) → fed a ws′ d ≡ feedWords ws p b → TriedRight ws p b (Fed a) ws′ d
+  unfolding TriedRight
+  tried-fed a ws′ d e = e
+
+  pub was-nothing : (r : Tried) (ws′ : List ℕ) (d : Lent) → TriedRight ws p b r ws′ d → r ≡ Not → (x : FeedDone) → x ≡ feedWords ws′ p d → x ≡ feedWords ws p b
+  unfolding TriedRight
+  was-nothing r ws′ d t e x q = let n : (ws′ ≡ ws) × (d ≡ b) = rw e at t in q ∙ ap (λ (l : List ℕ). feedWords l p d) (n .0) ∙ ap (feedWords ws p) (n .1)
+
+  pub was-fed : (r : Tried) (a : FedAnswer) (ws′ : List ℕ) (d : Lent) → TriedRight ws p b r ws′ d → r ≡ Fed a → fed a ws′ d ≡ feedWords ws p b
+  unfolding TriedRight
+  was-fed r a ws′ d t e = rw e at t
+
+  module _ (op : Opening) (isOp : op ≡ openingIn ws) where
+    module _ (reads : readerIn ws ≡ Is (fresh (openingIn ws))) (third : getD p 2 0 < 256) where
+      pub between-not : (d : Lent) → wholeFed wholeAs.Not d ≡ wholeOf op p b → TriedRight ws p b Not ws d
+      between-not d q = tried-nothing ws d refl (whole-not op p b third d q)
+
+      pub between-fed : length ws ≡ 8 → (consumed written : ℕ) (report : Report) (d : Lent) → wholeFed (wholeAs.Took consumed written report) d ≡ wholeOf op p b
+          → (a : FedAnswer) → a ≡ fedReport consumed written report → TriedRight ws p b (Fed a) ws d
+      unfolding fedTook
+      between-fed len consumed written report d q a said =
+          let loads : readerIn ws ≡ Is (fresh op) = rw isOp reads in
+          tried-fed a ws d
+          (feed-stored ws p b (fresh op) (fresh op) (fedAs.Took consumed written (Capsule report)) d a loads (whole-fed op p b third consumed written report d q) ws consumed written (Capsule report) refl said (sym (read-as-stored ws (fresh op) len loads)))
+
+    module _ (reads : readerIn ws ≡ Is (inValue (openingIn ws) (getD ws 4 0) (getD ws 5 0) (getD ws 6 0))) where
+      pub within-not : (d : Lent) → insideFed insideAs.Not d ≡ insideOf op (getD ws 4 0) (getD ws 5 0) (getD ws 6 0) p b → TriedRight ws p b Not ws d
+      within-not d q = tried-nothing ws d refl (inside-not op (getD ws 4 0) (getD ws 5 0) (getD ws 6 0) p b d q)
+
+      pub within-fits : (written : ℕ) (d : Lent) → insideFed (insideAs.Took written) d ≡ insideOf op (getD ws 4 0) (getD ws 5 0) (getD ws 6 0) p b → length p ≤ getD ws 6 0
+      within-fits written d q = inside-fed op (getD ws 4 0) (getD ws 5 0) (getD ws 6 0) p b written d q .0
+
+      pub within-fed : length ws ≡ 8 → (written : ℕ) (d : Lent) → insideFed (insideAs.Took written) d ≡ insideOf op (getD ws 4 0) (getD ws 5 0) (getD ws 6 0) p b
+          → (a : FedAnswer) → a ≡ fedTook (length p) written Nothing → TriedRight ws p b (Fed a) (set ws 6 (getD ws 6 0 - length p)) d
+      within-fed len written d q a said =
+          let t = getD ws 4 0 in
+          let n = getD ws 5 0 in
+          let left = getD ws 6 0 in
+          let loads : readerIn ws ≡ Is (inValue op (getD ws 4 0) (getD ws 5 0) (getD ws 6 0)) = rw isOp reads in
+          let words = sym (read-as-stored ws (inValue op t n left) len loads) in
+          tried-fed a (set ws 6 (left - length p)) d
+          (feed-stored ws p b (inValue op t n left) (inValue op t n (left - length p)) (fedAs.Took (length p) written Nothing) d a loads (inside-fed op t n left p b written d q .1) (set ws 6 (left - length p)) (length p) written Nothing refl said
+          (ap (λ (l : List ℕ). set l 6 (left - length p)) words ∙ stored-left op t n left (left - length p)))
