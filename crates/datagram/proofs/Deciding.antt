@@ -30,8 +30,8 @@ use Rattle.datagram.specs.declared.judge.Judged.{Judged}
 use Rattle.datagram.specs.declared.judge.Judged.the-variants as judged
 use Rattle.datagram.specs.declared.write.Sending.{Sending}
 use Rattle.datagram.specs.declared.write.Sending.the-variants as sending
-use Rattle.datagram.specs.Judging.{judgedRecord, judgedFound, judgedQuarter, judgedRead, judgedOf, judgedRows, behind, isDelivered, ifDelivered, payloadRows}
-use Rattle.datagram.specs.Sending.{sendingRecord, sendingQuarter, sendingOf, sendingRows}
+use Rattle.datagram.specs.Judging.{judgedRecord, judgedFound, judgedQuarter, judgedRead, judgedBy, judgedOf, judgedRowsBy, judgedRows, behind, isDelivered, ifDelivered}
+use Rattle.datagram.specs.Sending.{sendingRecord, sendingQuarter, sendingOf, sendingRows, frameWritten, frameFor}
 use Rattle.datagram.specs.Claims.{DeliveredRight}
 
 zero-one {ℓ} : {X : Type ℓ} → _≡_ {A = ℕ} 0 1 → X
@@ -71,28 +71,29 @@ module _ (qs ms : List ℕ) where
 
 -- ---- judging
 
-judged-bad : (streams limit : ℕ) (frame : List ℕ) (u : Table) → isBad u ≡ true → judgedOf u streams limit frame ≡ judged.Refused badTable
-unfolding judgedOf
-judged-bad streams limit frame u e = rw e
-
-module _ (qs ms : List ℕ) (streams limit : ℕ) (frame : List ℕ) where
-  pub judge-bad : isBadRows qs ms ≡ true → judged.Refused badTable ≡ judgedRows qs ms streams limit frame
-  unfolding judgedRows
-  judge-bad e = rows-bad qs ms (λ (u : Table). judgedOf u streams limit frame) (judged.Refused badTable) (judged-bad streams limit frame) e
+module _ (qs ms : List ℕ) (streams limit n : ℕ) (v : Varint) where
+  pub judge-bad : isBadRows qs ms ≡ true → judged.Refused badTable ≡ judgedRowsBy qs ms streams limit n v
+  unfolding judgedRowsBy
+  judge-bad e = rows-bad qs ms (λ (u : Table). judgedBy u streams limit n v) (judged.Refused badTable) (λ u d. rw d) e
 
   module _ (g : isBadRows qs ms ≡ false) where
-    pub judge-limit : 65535 < limit → judged.Refused limitTooLarge ≡ judgedRows qs ms streams limit frame
-    unfolding judgedRows judgedOf
+    pub judge-limit : 65535 < limit → judged.Refused limitTooLarge ≡ judgedRowsBy qs ms streams limit n v
+    unfolding judgedRowsBy
     judge-limit h = let e = rows-good qs ms g in rw (e .0, e .1, lt-leb limit 65535 h)
 
     module _ (l : limit ≤ 65535) where
-      pub judge-streams : 2 ^ 60 < streams → judged.Refused numberTooLarge ≡ judgedRows qs ms streams limit frame
-      unfolding judgedRows judgedOf
+      pub judge-streams : 2 ^ 60 < streams → judged.Refused numberTooLarge ≡ judgedRowsBy qs ms streams limit n v
+      unfolding judgedRowsBy
       judge-streams h = let e = rows-good qs ms g in rw (e .0, e .1, le-leb limit 65535 l, lt-leb streams (2 ^ 60) h)
 
-      pub judge-rules : streams ≤ 2 ^ 60 → (v : Varint) → readVarint frame ≡ v → (j : Judged) → j ≡ judgedRead (tableOf qs ms) streams limit frame v → j ≡ judgedRows qs ms streams limit frame
-      unfolding judgedRows judgedOf
-      judge-rules h v d j k = let e = rows-good qs ms g in rw (e .0, e .1, le-leb limit 65535 l, le-leb streams (2 ^ 60) h, d) k
+      pub judge-rules : streams ≤ 2 ^ 60 → (j : Judged) → j ≡ judgedRead (tableOf qs ms) streams limit n v → j ≡ judgedRowsBy qs ms streams limit n v
+      unfolding judgedRowsBy
+      judge-rules h j k = let e = rows-good qs ms g in rw (e .0, e .1, le-leb limit 65535 l, le-leb streams (2 ^ 60) h) k
+
+-- a frame by its length and what is read of it
+pub judge-read : (qs ms : List ℕ) (streams limit : ℕ) (frame : List ℕ) (v : Varint) → v ≡ readVarint frame → judgedRowsBy qs ms streams limit (length frame) v ≡ judgedRows qs ms streams limit frame
+unfolding judgedRowsBy judgedRows judgedOf
+judge-read qs ms streams limit frame v e = ap (judgedRowsBy qs ms streams limit (length frame)) e
 
 module _ (t : Table) (streams limit q rest : ℕ) where
   pub quarter-large : largestQuarter < q → judged.QuarterTooLarge ≡ judgedQuarter t streams limit q rest
@@ -156,7 +157,7 @@ sent-record r q q′ s e = go s (r .send) (r .semantics) e
     go true false b d = zero-one (cc)
     go false a b d = zero-one (cc)
 
-sent-quarter : (t : Table) (q q′ : Quarter) (s : Bool) → sendingQuarter t q s ≡ sending.To q′ → q ≡ q′
+pub sent-quarter : (t : Table) (q q′ : Quarter) (s : Bool) → sendingQuarter t q s ≡ sending.To q′ → q ≡ q′
 sent-quarter t q q′ s e = go (find (q .0) t) refl
   where
     go : (f : Found) → find (q .0) t ≡ f → q ≡ q′
@@ -205,7 +206,7 @@ module _ (t : Table) (streams limit place q : ℕ) where
   unfolding judgedOf
   rules-place frame size r e = go (isBad t) (leb limit 65535) (leb streams (2 ^ 60)) e
     where
-      go : (a b c : Bool) → cond a (judged.Refused badTable) (cond b (cond c (judgedRead t streams limit frame (readVarint frame)) (judged.Refused numberTooLarge)) (judged.Refused limitTooLarge)) ≡ judged.Delivered place
+      go : (a b c : Bool) → cond a (judged.Refused badTable) (cond b (cond c (judgedRead t streams limit (length frame) (readVarint frame)) (judged.Refused numberTooLarge)) (judged.Refused limitTooLarge)) ≡ judged.Delivered place
           → find q t ≡ At place
       go true b c d = zero-one (cc)
       go false true true d = quarter-place (length frame - size) (unfold judgedRead in rw r at d)
@@ -218,20 +219,30 @@ delivered-right t streams limit place q size frame e r =
 
 -- ---- the part
 
-module _ (qs ms : List ℕ) (streams limit : ℕ) (frame : List ℕ) where
-  pub payload-none : isDelivered (judgedRows qs ms streams limit frame) ≡ false → [] ≡ payloadRows qs ms streams limit frame
-  unfolding payloadRows ifDelivered
-  payload-none e = rw e
+module _ (j : Judged) (frame : List ℕ) where
+  pub part-none : isDelivered j ≡ false → [] ≡ ifDelivered j (behind (readVarint frame) frame)
+  unfolding ifDelivered
+  part-none e = rw e
 
-  pub payload-short : readVarint frame ≡ Incomplete → [] ≡ payloadRows qs ms streams limit frame
-  unfolding payloadRows ifDelivered behind
-  payload-short e = rw e (go (isDelivered (judgedRows qs ms streams limit frame)))
+  pub part-short : readVarint frame ≡ Incomplete → [] ≡ ifDelivered j (behind (readVarint frame) frame)
+  unfolding ifDelivered behind
+  part-short e = rw e (go (isDelivered j))
     where
       go : (b : Bool) → _≡_ {A = List ℕ} [] (cond b [] [])
       go true = refl
       go false = refl
 
-  pub payload-rest : isDelivered (judgedRows qs ms streams limit frame) ≡ true → (q size : ℕ) → readVarint frame ≡ Whole q size
-      → take (length frame - size) (drop size frame) ≡ payloadRows qs ms streams limit frame
-  unfolding payloadRows ifDelivered behind
-  payload-rest d q size e = rw (d, e) (take-all (length frame - size) (drop size frame) (omega (arith, length-drop size frame)))
+  pub part-rest : isDelivered j ≡ true → (q size : ℕ) → readVarint frame ≡ Whole q size → take (length frame - size) (drop size frame) ≡ ifDelivered j (behind (readVarint frame) frame)
+  unfolding ifDelivered behind
+  part-rest d q size e = rw (d, e) (take-all (length frame - size) (drop size frame) (omega (arith, length-drop size frame)))
+
+-- ---- frames for any quarter
+
+pub frame-for : (qs ms : List ℕ) (id : StreamId) (settings : Bool) (path : ℕ) (payload out : List ℕ) (place : ℕ)
+    → frameFor (sendingRows qs ms id settings) path payload out place ≡ frameWritten (sendingRows qs ms id settings) path payload out place
+unfolding frameFor frameWritten
+frame-for qs ms id settings path payload out place = go (sendingRows qs ms id settings) refl
+  where
+    go : (s : Sending) → sendingRows qs ms id settings ≡ s → frameFor s path payload out place ≡ frameWritten s path payload out place
+    go (sending.Refused r) e = refl
+    go (sending.To q) e = rw (le-leb (q .0) largest (sent-bounded qs ms id settings q e))

@@ -34,17 +34,21 @@ unfoldable pub judgedQuarter : Table → ℕ → ℕ → ℕ → ℕ → Judged
 judgedQuarter t streams limit q rest =
     cond (leb q largestQuarter) (cond (ltb q streams) (judgedFound t (find q t) limit rest) BeyondLimit) QuarterTooLarge
 
--- rule 1: the payload starts with the quarter as a varint
-unfoldable pub judgedRead : Table → ℕ → ℕ → List ℕ → Varint → Judged
-judgedRead t streams limit frame Incomplete = ShortFrame
-judgedRead t streams limit frame (Whole q size) = judgedQuarter t streams limit q (length frame - size)
+-- rule 1: the payload, of n bytes, starts with the quarter as a varint
+unfoldable pub judgedRead : Table → ℕ → ℕ → ℕ → Varint → Judged
+judgedRead t streams limit n Incomplete = ShortFrame
+judgedRead t streams limit n (Whole q size) = judgedQuarter t streams limit q (n - size)
 
--- refusals 15, 3, 6, and then the rules: a table, the stated stream limit, the datagram limit and a frame's payload
-unfoldable pub judgedOf : Table → ℕ → ℕ → List ℕ → Judged
-judgedOf t streams limit frame =
+-- refusals 15, 3, 6, and then the rules: a table, the stated stream limit, the datagram limit, and a frame's payload by its length and what is
+-- read at its front
+abbrev pub judgedBy : Table → ℕ → ℕ → ℕ → Varint → Judged
+judgedBy t streams limit n read =
     cond (isBad t)
     (Refused badTable)
-    (cond (leb limit 65535) (cond (leb streams (2 ^ 60)) (judgedRead t streams limit frame (readVarint frame)) (Refused numberTooLarge)) (Refused limitTooLarge))
+    (cond (leb limit 65535) (cond (leb streams (2 ^ 60)) (judgedRead t streams limit n read) (Refused numberTooLarge)) (Refused limitTooLarge))
+
+unfoldable pub judgedOf : Table → ℕ → ℕ → List ℕ → Judged
+judgedOf t streams limit frame = judgedBy t streams limit (length frame) (readVarint frame)
 
 -- the numbers of the rules; a refusal is no rule
 unfoldable pub ruleOf : Judged → Option ℕ
@@ -82,6 +86,9 @@ unfoldable pub payloadOf : Table → ℕ → ℕ → List ℕ → List ℕ
 payloadOf t streams limit frame = ifDelivered (judgedOf t streams limit frame) (behind (readVarint frame) frame)
 
 -- ---- the table lent as rows: rows of unequal length are no table
+
+unfoldable pub judgedRowsBy : List ℕ → List ℕ → ℕ → ℕ → ℕ → Varint → Judged
+judgedRowsBy qs ms streams limit n read = cond (eqb (length qs) (length ms)) (judgedBy (tableOf qs ms) streams limit n read) (Refused badTable)
 
 unfoldable pub judgedRows : List ℕ → List ℕ → ℕ → ℕ → List ℕ → Judged
 judgedRows qs ms streams limit frame = cond (eqb (length qs) (length ms)) (judgedOf (tableOf qs ms) streams limit frame) (Refused badTable)

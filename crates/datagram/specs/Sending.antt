@@ -8,7 +8,7 @@ use Rattle.refusals.specs.Numbers.{numberTooLarge, notARequestStream, notInTabl
 use Rattle.wire.specs.declared.units.StreamId.{StreamId}
 use Rattle.wire.specs.declared.units.Quarter.{Quarter}
 use Rattle.wire.specs.declared.units.QuarterOf.the-variants.{NotRequestStream, Is}
-use Rattle.wire.specs.Varint.{encode}
+use Rattle.wire.specs.Varint.{largest, encode}
 use Rattle.wire.specs.Writing.{Writing, refuses, writeAt}
 use Rattle.wire.specs.Units.{quarterOf}
 use Rattle.streams.specs.declared.record.StreamRecord.{StreamRecord}
@@ -64,6 +64,11 @@ capsuleWritten (To q) payload out place = putCapsule payload out place
 unfoldable pub frameWritten : Sending → ℕ → List ℕ → List ℕ → ℕ → Writing
 frameWritten (Refused r) path payload out place = refuses r out
 frameWritten (To q) path payload out place = putFrame (q .0) path payload out place
+
+-- the same for any quarter: one above 2^62-1 is no varint
+unfoldable pub frameFor : Sending → ℕ → List ℕ → List ℕ → ℕ → Writing
+frameFor (Refused r) path payload out place = refuses r out
+frameFor (To q) path payload out place = cond (leb (q .0) largest) (putFrame (q .0) path payload out place) (refuses numberTooLarge out)
 
 unfoldable pub writeCapsule : Table → StreamId → List ℕ → List ℕ → ℕ → Writing
 writeCapsule t id payload out place = capsuleWritten (sendingOf t id true) payload out place

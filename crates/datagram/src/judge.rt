@@ -1,7 +1,9 @@
 // A received QUIC DATAGRAM payload, judged. The table is lent as two rows of numbers (see crate streams).
 ghost use mathlib.Core.Path.{_≡_};
+ghost use Prim.Native.Nat.{_-_};
+ghost use Rattle.wire.specs.Varint.{readVarint};
 ghost use Rattle.streams.specs.Rows.{tableOf};
-ghost use Rattle.datagram.specs.Judging.{judgedRecord, judgedQuarter, judgedRows, isDelivered, payloadRows};
+ghost use Rattle.datagram.specs.Judging.{judgedRecord, judgedQuarter, judgedRowsBy, judgedRows, isDelivered, ifDelivered, behind, payloadRows};
 use refusals::Refusal;
 use streams::record::StreamRecord;
 use streams::table::Found;
@@ -89,9 +91,27 @@ fn judge_quarter(
     }
 }
 
-// Judges a frame's payload by the stated stream limit and the datagram limit.
-pub fn judge(quarters: &[u64], marks: &[u8], streams: u64, limit: u64, frame: &[u8]) -> Judged
-    ensures { λ j. ⌜ j ≡ judgedRows (now (quarters .entry)) (now (marks .entry)) streams limit (now (frame .entry)) ⌝ }
+// How many bytes are left behind the first ones.
+fn rest_of(length: u64, size: usize) -> u64
+    ensures { λ r. ⌜ r ≡ length - size ⌝ }
+{
+    let taken = size as u64;
+    if taken > length {
+        return 0;
+    }
+    length - taken
+}
+
+// Judges a frame's payload by its length and what is read at its front.
+pub fn judge_read(
+    quarters: &[u64],
+    marks: &[u8],
+    streams: u64,
+    limit: u64,
+    read: Varint,
+    length: u64,
+) -> Judged
+    ensures { λ j. ⌜ j ≡ judgedRowsBy (now (quarters .entry)) (now (marks .entry)) streams limit length read ⌝ }
 {
     if is_bad(quarters, marks) {
         return Judged::Refused(Refusal::BAD_TABLE);
@@ -102,13 +122,46 @@ pub fn judge(quarters: &[u64], marks: &[u8], streams: u64, limit: u64, frame: &[
     if streams > Judged::UNKNOWN_STREAMS {
         return Judged::Refused(Refusal::NUMBER_TOO_LARGE);
     }
-    let read = read_varint(frame);
     match read {
         Varint::Incomplete => Judged::ShortFrame,
         Varint::Whole { value, size } => {
-            let rest = (frame.len() - size) as u64;
-            judge_quarter(quarters, marks, streams, limit, value, rest)
+            judge_quarter(
+                quarters,
+                marks,
+                streams,
+                limit,
+                value,
+                rest_of(length, size),
+            )
         }
+    }
+}
+
+// Judges a frame's payload by the stated stream limit and the datagram limit.
+pub fn judge(quarters: &[u64], marks: &[u8], streams: u64, limit: u64, frame: &[u8]) -> Judged
+    ensures { λ j. ⌜ j ≡ judgedRows (now (quarters .entry)) (now (marks .entry)) streams limit (now (frame .entry)) ⌝ }
+{
+    judge_read(
+        quarters,
+        marks,
+        streams,
+        limit,
+        read_varint(frame),
+        frame.len() as u64,
+    )
+}
+
+// The part of the frame behind its quarter where it was judged delivered, and an empty part otherwise.
+pub fn part<'a>(judged: Judged, frame: &'a [u8]) -> &'a [u8]
+    ensures { λ r. ⌜ now r ≡ ifDelivered judged (behind (readVarint (now (frame .entry))) (now (frame .entry))) ⌝ }
+{
+    if !judged.is_delivered() {
+        return &frame[..0];
+    }
+    let read = read_varint(frame);
+    match read {
+        Varint::Incomplete => &frame[..0],
+        Varint::Whole { value: _, size } => &frame[size..],
     }
 }
 
@@ -122,13 +175,5 @@ pub fn payload<'a>(
 ) -> &'a [u8]
     ensures { λ r. ⌜ now r ≡ payloadRows (now (quarters .entry)) (now (marks .entry)) streams limit (now (frame .entry)) ⌝ }
 {
-    let judged = judge(quarters, marks, streams, limit, frame);
-    if !judged.is_delivered() {
-        return &frame[..0];
-    }
-    let read = read_varint(frame);
-    match read {
-        Varint::Incomplete => &frame[..0],
-        Varint::Whole { value: _, size } => &frame[size..],
-    }
+    part(judge(quarters, marks, streams, limit, frame), frame)
 }

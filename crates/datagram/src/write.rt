@@ -8,7 +8,7 @@ ghost use Rattle.wire.specs.Varint.{largest, leastSize, encode};
 ghost use Rattle.wire.specs.Writing.{writing};
 ghost use mathlib.Core.Bool.{Bool};
 ghost use Rattle.streams.specs.Rows.{tableOf};
-ghost use Rattle.datagram.specs.Sending.{putCapsule, putFrame, agreed, sendingRecord, sendingQuarter, sendingRows, writeCapsuleRows, writeFrameRows};
+ghost use Rattle.datagram.specs.Sending.{putCapsule, putFrame, agreed, sendingRecord, sendingQuarter, sendingRows, capsuleWritten, frameFor, writeCapsuleRows, writeFrameRows};
 use refusals::Refusal;
 use streams::record::StreamRecord;
 use streams::table::Found;
@@ -29,6 +29,9 @@ pub enum Sending {
 
 // The longest payload that is sent.
 const MAX_PAYLOAD: usize = 65535;
+
+// The largest number that a varint holds.
+const MAX_NUMBER: u64 = 4611686018427387903;
 
 // The shortest varint of a number and then the payload, at a place where both fit.
 fn put(head: u64, payload: &[u8], out: &mut [u8], at: usize)
@@ -82,7 +85,7 @@ fn put_frame(quarter: u64, path: u64, payload: &[u8], out: &mut [u8], place: usi
 }
 
 // Whether both settings allow frames.
-fn are_agreed(ours: u64, peers: u64) -> bool
+pub fn are_agreed(ours: u64, peers: u64) -> bool
     ensures { λ r. ⌜ r ≡ agreed ours peers ⌝ }
 {
     if ours != 1 {
@@ -117,7 +120,7 @@ fn send_quarter(quarters: &[u64], marks: &[u8], quarter: Quarter, settings: bool
 }
 
 // Whether the stream may be sent to, and its quarter.
-fn send(quarters: &[u64], marks: &[u8], id: StreamId, settings: bool) -> Sending
+pub fn send(quarters: &[u64], marks: &[u8], id: StreamId, settings: bool) -> Sending
     ensures { λ s. ⌜ s ≡ sendingRows (now (quarters .entry)) (now (marks .entry)) id settings ⌝ }
 {
     if is_bad(quarters, marks) {
@@ -127,6 +130,37 @@ fn send(quarters: &[u64], marks: &[u8], id: StreamId, settings: bool) -> Sending
     match quarter {
         QuarterOf::NotRequestStream => Sending::Refused(Refusal::NOT_A_REQUEST_STREAM),
         QuarterOf::Is(q) => send_quarter(quarters, marks, q, settings),
+    }
+}
+
+// Writes a DATAGRAM capsule where the stream may be sent to.
+pub fn capsule_for(sending: Sending, payload: &[u8], out: &mut [u8], place: usize) -> Written
+    ensures { λ r. ⌜ writing r (now (out .exit)) ≡ capsuleWritten sending (now (payload .entry)) (now (out .entry)) place ⌝ }
+{
+    match sending {
+        Sending::Refused(why) => Written::Refused(why),
+        Sending::To(_) => put_capsule(payload, out, place),
+    }
+}
+
+// Writes a QUIC DATAGRAM frame's payload where the stream may be sent to.
+pub fn frame_for(
+    sending: Sending,
+    path: u64,
+    payload: &[u8],
+    out: &mut [u8],
+    place: usize,
+) -> Written
+    ensures { λ r. ⌜ writing r (now (out .exit)) ≡ frameFor sending path (now (payload .entry)) (now (out .entry)) place ⌝ }
+{
+    match sending {
+        Sending::Refused(why) => Written::Refused(why),
+        Sending::To(q) => {
+            if q.0 > MAX_NUMBER {
+                return Written::Refused(Refusal::NUMBER_TOO_LARGE);
+            }
+            put_frame(q.0, path, payload, out, place)
+        }
     }
 }
 
@@ -141,11 +175,7 @@ pub fn write_capsule(
 ) -> Written
     ensures { λ r. ⌜ writing r (now (out .exit)) ≡ writeCapsuleRows (now (quarters .entry)) (now (marks .entry)) id (now (payload .entry)) (now (out .entry)) place ⌝ }
 {
-    let sending = send(quarters, marks, id, true);
-    match sending {
-        Sending::Refused(why) => Written::Refused(why),
-        Sending::To(_) => put_capsule(payload, out, place),
-    }
+    capsule_for(send(quarters, marks, id, true), payload, out, place)
 }
 
 // Writes a QUIC DATAGRAM frame's payload for the stream: quarter, payload.
@@ -162,9 +192,11 @@ pub fn write_frame(
 ) -> Written
     ensures { λ r. ⌜ writing r (now (out .exit)) ≡ writeFrameRows (now (quarters .entry)) (now (marks .entry)) id ours peers path (now (payload .entry)) (now (out .entry)) place ⌝ }
 {
-    let sending = send(quarters, marks, id, are_agreed(ours, peers));
-    match sending {
-        Sending::Refused(why) => Written::Refused(why),
-        Sending::To(q) => put_frame(q.0, path, payload, out, place),
-    }
+    frame_for(
+        send(quarters, marks, id, are_agreed(ours, peers)),
+        path,
+        payload,
+        out,
+        place,
+    )
 }

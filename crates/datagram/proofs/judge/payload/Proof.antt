@@ -1,72 +1,26 @@
-use mathlib.Core.Path.{sym, ap, _∙_}
-use borrow.Author.Tests.{not-true, not-false}
-use Rattle.wire.proofs.Reading.{reads}
-use Rattle.datagram.specs.Judging.{isDelivered}
-use Rattle.datagram.proofs.Deciding.{payload-none, payload-short, payload-rest}
+use mathlib.Core.Path.{ap, _∙_}
+use Rattle.wire.specs.Varint.{readVarint}
+use Rattle.datagram.specs.declared.judge.Judged.{Judged}
+use Rattle.datagram.specs.Judging.{behind, ifDelivered, payloadRows}
 use borrow.Author.Needs.{needs}
 use Rattle.datagram.proofs.judge.payload.Statement.{statement}
 use Rattle.datagram.proofs.judge.payload.Tie as tie
 use Rattle.datagram.proofs.judge.payload.Reads as reads
+use Rattle.datagram.proofs.judge.payload.Lts as lts
+use Rattle.datagram.proofs.judge.judge.Reads as judge-reads
+use Rattle.datagram.proofs.judge.part.Reads as part-reads
 
 judge-requires : tie.Need-judge-requires
 judge-requires c κs = search needs
 
-is-delivered-requires : tie.Need-is-delivered-requires
-is-delivered-requires c κs = search needs
-
-slice-aggregate-result : tie.Need-slice-aggregate-result
-slice-aggregate-result c = search needs
+part-requires : tie.Need-part-requires
+part-requires c κs = search needs
 
 returns : tie.Need-returns
+unfolding payloadRows
 returns c =
-    let entry = c .before .before .before .before .before .before .before in
-    payload-none (entry .args .quarters .now) (entry .args .marks .now) (entry .args .streams) (entry .args .limit) (entry .args .frame .now) (sym (c .before .before .is-delivered .ensures ∙ ap isDelivered (c .before .before .before .judge .ensures)) ∙ not-true (c .before .before .is-delivered .result) (c .before .if1 .taken))
-
-read-varint-requires : tie.Need-read-varint-requires
-read-varint-requires c κs = search needs
-
-enum-told : tie.Need-enum-told
-enum-told c = search needs
-
-slice-aggregate-result-2 : tie.Need-slice-aggregate-result-2
-slice-aggregate-result-2 c = search needs
-
-enum-known-read : tie.Need-enum-known-read
-enum-known-read c = search needs
-
-sub-result : tie.Need-sub-result
-sub-result c = reads (c .before .before .before .before .before .before .before .before .before .before .args .frame .now) (c .before .read .given .0 .0) (c .before .read .given .0 .1 .0) (sym (c .before .before .before .read-varint .ensures) ∙ c .before .read .given .1) .fits
-
-part-result-start : tie.Need-part-result-start
-part-result-start c = reads (c .before .before .before .before .before .before .before .before .before .before .args .frame .now) (c .before .read .given .0 .0) (c .before .read .given .0 .1 .0) (sym (c .before .before .before .read-varint .ensures) ∙ c .before .read .given .1) .fits
-
-part-result-end : tie.Need-part-result-end
-part-result-end c = search needs
-
-returns-2 : tie.Need-returns-2
-returns-2 c =
-    let entry = c .before .before .before .before .before .before .before .before .before .before in
-    payload-short (entry .args .quarters .now) (entry .args .marks .now) (entry .args .streams) (entry .args .limit) (entry .args .frame .now) (sym (c .before .before .before .read-varint .ensures) ∙ c .before .enum-told .given .1)
-
-returns-3 : tie.Need-returns-3
-returns-3 c =
-    let entry = c .before .before .before .before .before .before .before .before .before .before .before in
-    payload-rest (entry .args .quarters .now) (entry .args .marks .now) (entry .args .streams) (entry .args .limit) (entry .args .frame .now) (sym (c .before .before .before .before .before .before .is-delivered .ensures ∙ ap isDelivered (c .before .before .before .before .before .before .before .judge .ensures)) ∙ not-false (c .before .before .before .before .before .before .is-delivered .result) (c .before .before .before .before .before .if1 .left)) (c .before .before .read .given .0 .0) (c .before .before .read .given .0 .1 .0) (sym (c .before .before .before .before .read-varint .ensures) ∙ c .before .before .read .given .1)
+    let frame = c .before .before .before .before .before .args .frame .now in
+    c .part .ensures ∙ ap (λ (j : Judged). ifDelivered j (behind (readVarint frame) frame)) (c .before .judge .ensures)
 
 pub payload-spec : {M : Type 1} → statement M
-payload-spec =
-    tie.close
-    (tie.spec
-    judge-requires
-    is-delivered-requires
-    slice-aggregate-result
-    returns
-    read-varint-requires
-    enum-told
-    slice-aggregate-result-2
-    enum-known-read
-    sub-result
-    part-result-start
-    part-result-end
-    returns-2
-    returns-3)
+payload-spec = tie.close (tie.spec judge-requires part-requires returns)

@@ -1,0 +1,9 @@
+pub mod Filling
+pub mod Home
+pub mod Loan
+pub mod Shared
+pub mod Zeros
+pub mod Storing
+pub mod DecideCall
+pub mod ChangeCall
+pub mod Answers

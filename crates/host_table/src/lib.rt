@@ -1,0 +1,3 @@
+// The stream table as a lent row of at most 64 stream records.
+pub mod query;
+pub mod rows;
