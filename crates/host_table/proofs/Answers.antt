@@ -15,7 +15,10 @@ use Rattle.wire.specs.Units.{largestQuarter, quarterOf}
 use Rattle.wire.specs.Varint.{largest, readVarint}
 use Rattle.wire.specs.Writing.{Writing}
 use Rattle.wire.proofs.Identifiers.{quarter-bounded}
-use Rattle.streams.specs.Tables.{Table, isBad}
+use Rattle.streams.specs.declared.record.Side.{Side}
+use Rattle.streams.specs.declared.table.Opening.{Opening}
+use Rattle.streams.specs.declared.table.Closing.{Closing}
+use Rattle.streams.specs.Tables.{Table, isBad, openingOf, closingOf, tableOpened, tableClosed}
 use Rattle.datagram.specs.declared.judge.Judged.{Judged}
 use Rattle.datagram.specs.declared.write.Sending.{Sending}
 use Rattle.datagram.specs.declared.write.Sending.the-variants.{Refused, To}
@@ -23,9 +26,23 @@ use Rattle.datagram.specs.Judging.{judgedOf, behind, ifDelivered, payloadOf}
 use Rattle.datagram.specs.Sending.{agreed, sendingQuarter, sendingOf, capsuleWritten, frameWritten, frameFor, writeCapsule, writeFrame}
 use Rattle.datagram.proofs.Deciding.{sent-quarter}
 use Rattle.host_table.specs.declared.query.Query.{Query}
-use Rattle.host_table.specs.declared.query.Query.the-variants.{Send}
+use Rattle.host_table.specs.declared.query.Query.the-variants.{Open, Close, Send}
 use Rattle.host_table.specs.declared.query.Decided.{Decided}
-use Rattle.host_table.specs.Queries.{judgeQuery, decidedOf, judgedIn, sendingIn}
+use Rattle.host_table.specs.Queries.{judgeQuery, decidedOf, changedOf, openingIn, closingIn, judgedIn, sendingIn}
+
+-- the answer and the table afterwards
+module _ (t after : Table) (c : Query) (d : Decided) (e : (d ≡ decidedOf t c) × (after ≡ changedOf t c)) (id : StreamId) where
+  pub openings : (semantics : Bool) (r : Opening) → c ≡ Open id semantics → r ≡ openingIn d → (r ≡ openingOf t id) × (after ≡ tableOpened t id semantics r)
+  unfolding decidedOf changedOf openingIn
+  openings semantics r ec er =
+      let r-is : r ≡ openingOf t id = er ∙ ap openingIn (e .0 ∙ ap (decidedOf t) ec) in
+      (r-is, e .1 ∙ ap (changedOf t) ec ∙ ap (tableOpened t id semantics) (sym r-is))
+
+  pub closings : (side : Side) (r : Closing) → c ≡ Close id side → r ≡ closingIn d → (r ≡ closingOf t id side) × (after ≡ tableClosed t r)
+  unfolding decidedOf changedOf closingIn
+  closings side r ec er =
+      let r-is : r ≡ closingOf t id side = er ∙ ap closingIn (e .0 ∙ ap (decidedOf t) ec) in
+      (r-is, e .1 ∙ ap (changedOf t) ec ∙ ap (tableClosed t) (sym r-is))
 
 module _ (t : Table) (c : Query) (d : Decided) (ed : d ≡ decidedOf t c) where
   module _ (streams limit : ℕ) (frame : List ℕ) (ec : c ≡ judgeQuery streams limit frame) where

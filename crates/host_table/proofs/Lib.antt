@@ -7,3 +7,4 @@ pub mod Storing
 pub mod DecideCall
 pub mod ChangeCall
 pub mod Answers
+pub mod Refusals

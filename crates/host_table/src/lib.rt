@@ -1,3 +1,4 @@
 // The stream table as a lent row of at most 64 stream records.
 pub mod query;
 pub mod rows;
+pub mod table;

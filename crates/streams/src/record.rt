@@ -6,6 +6,7 @@ ghost use Rattle.streams.specs.Records.{opened, bothClosed, isBadRecord,
 ghost use Rattle.streams.specs.Rows.{recordOf, markOf};
 use wire::units::Quarter;
 
+#[repr(C)]
 pub struct StreamRecord {
     pub used: bool,
     pub quarter: Quarter,

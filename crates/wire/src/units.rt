@@ -4,6 +4,7 @@ ghost use Rattle.wire.specs.Units.{quarterOf, streamOf};
 
 pub struct StreamId(pub u64);
 
+#[repr(C)]
 pub struct Quarter(pub u64);
 
 pub enum QuarterOf {

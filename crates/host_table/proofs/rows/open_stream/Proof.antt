@@ -49,7 +49,7 @@ use Rattle.streams.specs.Tables.{openingOf, tableOpened}
 use Rattle.host_table.specs.declared.query.Query.{Query}
 use Rattle.host_table.specs.declared.query.Query.the-variants.{Open}
 use Rattle.host_table.specs.declared.query.Decided.{Decided}
-use Rattle.host_table.specs.Queries.{decidedOf, changedOf, openingIn}
+use Rattle.host_table.specs.Queries.{openingIn}
 use Rattle.host_table.proofs.query.Query as K
 use Rattle.host_table.proofs.query.Query.Laws as K′
 use Rattle.host_table.proofs.query.Decided as D
@@ -66,6 +66,7 @@ use Rattle.host_table.proofs.rows.change.Symbol as change-def
 use Rattle.host_table.proofs.rows.change.Symbol.{name as #change}
 use Rattle.host_table.proofs.rows.change.Met as change-thm
 use Rattle.host.proofs.Meeting.{by-walk}
+use Rattle.host_table.proofs.Answers.{openings}
 use Rattle.host_table.proofs.ChangeCall.{ChangeC, to-change, Did, Changes, goes-change, after-change}
 use Rattle.host_table.proofs.rows.open_stream.Key.{name as #f}
 use Rattle.host_table.proofs.rows.open_stream as this
@@ -75,15 +76,9 @@ use Rattle.host_table.proofs.rows.open_stream.Code as code
 abbrev stayed : Stays (this.ended .signature .params) (this.ended .kept)
 stayed = (gave-slice (0 ∷ []) tt (plain (λ _. R.the-row)), (stay-none (λ _. N.the-row) yes, (stay-none (λ _. bool) yes, tt)))
 
--- what the function says, from what `change` and the function that takes the answer out say
+-- what the function says
 abbrev Said : List StreamRecord → StreamId → Bool → Opening → List StreamRecord → Type 0
 Said ys id p r zs = (r ≡ openingOf ys id) × (zs ≡ tableOpened ys id p r)
-
-tells : (ys : List StreamRecord) (id : StreamId) (p : Bool) (c : Query) (d : Decided) (zs : List StreamRecord) (r : Opening) → c ≡ Open id p → (d ≡ decidedOf ys c) × (zs ≡ changedOf ys c) → r ≡ openingIn d → Said ys id p r zs
-unfolding decidedOf changedOf openingIn
-tells ys id p c d zs r ec e er =
-    let r-is : r ≡ openingOf ys id = er ∙ ap openingIn (e .0 ∙ ap (decidedOf ys) ec) in
-    (r-is, e .1 ∙ ap (changedOf ys) ec ∙ ap (tableOpened ys id p) (sym r-is))
 
 module _ {M : Type 1} (𝓤 : URA M) (H : Heap 𝓤) (A : Atoms 𝓤) (at-mem : Memory → SProp 𝓤) (run : Routine → Fun 𝓤) where
   abbrev AskC : Contract 𝓤
@@ -169,7 +164,7 @@ module _ {M : Type 1} (𝓤 : URA M) (H : Heap 𝓤) (A : Atoms 𝓤) (W : Given
           land ! (from ! (stop !)) (init ! 17 refl (EL.lawful E.the-type E′.the-laws 𝓤 H A W tt .typed r _ is .0)) $
           returns ! (look ! 17 refl) $ forget ! 3 refl $ forget ! 5 refl $ forget ! 7 refl $ forget ! 9 refl $ forget ! 11 refl $ forget ! 13 refl $ forget ! 15 refl $ forget ! 17 refl $
           move ! (17 ∷ 18 ∷ []) $ free1 ! $ move ! (15 ∷ 16 ∷ []) $ free1 ! $ move ! (13 ∷ 14 ∷ []) $ free1 ! $ move ! (11 ∷ 12 ∷ []) $ free1 ! $ move ! (9 ∷ 10 ∷ []) $ free1 ! $ move ! (7 ∷ 8 ∷ []) $ free1 ! $ move ! (5 ∷ 6 ∷ []) $ free1 ! $ move ! (3 ∷ 4 ∷ []) $ free1 ! $ free0 ! $
-          keep ! (0 ∷ 1 ∷ []) $ by ! (exits r (d .1) w′ (tells ys id p c (d .0) (d .1) r ec (g .0) e) (g .1) is))))))))))))))))))))
+          keep ! (0 ∷ 1 ∷ []) $ by ! (exits r (d .1) w′ (openings ys (d .1) c (d .0) (g .0) id p r ec e) (g .1) is))))))))))))))))))))
 
 module _ {M : Type 1} (𝓤 : URA M) (H : Heap 𝓤) (A : Atoms 𝓤) (W : Given 𝓤 H A) (at-mem : Memory → SProp 𝓤) (run : Routine → Fun 𝓤) where
   f-walks : (C : Calls 𝓤 H) (Λ : Loops 𝓤 H) → FmC 𝓤 H (W .laws) C → Triple 𝓤 (C #ask) (AskC 𝓤 H A at-mem run) → Triple 𝓤 (C #change) (ChangeC 𝓤 H A at-mem run) → Triple 𝓤 (C #finish) (FinishC 𝓤 H A at-mem run)
