@@ -8,3 +8,4 @@ pub mod DecideCall
 pub mod ChangeCall
 pub mod Answers
 pub mod Refusals
+pub mod Changing
