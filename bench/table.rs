@@ -107,18 +107,20 @@ fn pairwise(rows: &[StreamRecord], streams: u64, limit: u64, frame: &[u8]) -> u6
 
 type Judge = fn(&[StreamRecord], u64, u64, &[u8]) -> u64;
 
-// The best of several runs, in nanoseconds a call.
-fn time(judge: Judge, rows: &[StreamRecord], frame: &[u8]) -> f64 {
-    let calls = 100_000;
-    (0..15)
-        .map(|_| {
+// Each by turns in short batches, so that all meet the same machine; the best batch of each, in nanoseconds a call.
+fn time(judges: [Judge; 3], rows: &[StreamRecord], frame: &[u8]) -> [f64; 3] {
+    let calls = 1_000;
+    let mut best = [f64::MAX; 3];
+    for _ in 0..1_000 {
+        for (judge, least) in judges.iter().zip(best.iter_mut()) {
             let from = Instant::now();
             for _ in 0..calls {
                 black_box(judge(black_box(rows), 1 << 60, 1200, black_box(frame)));
             }
-            from.elapsed().as_nanos() as f64 / calls as f64
-        })
-        .fold(f64::MAX, f64::min)
+            *least = least.min(from.elapsed().as_nanos() as f64 / calls as f64);
+        }
+    }
+    best
 }
 
 fn table(places: usize, used: usize, step: u64) -> Vec<StreamRecord> {
@@ -180,7 +182,7 @@ fn main() {
         for (name, step) in [("in order", 1u64), ("scattered", 0x9e37_79b9_7f4a_7c15)] {
             let rows = table(places, used, step);
             let frame = frame_for(if used > 0 { rows[used * 3 / 4].quarter } else { 5 });
-            let (ours, theirs, pairs) = (time(verified, &rows, &frame), time(plain, &rows, &frame), time(pairwise, &rows, &frame));
+            let [ours, theirs, pairs] = time([verified, plain, pairwise], &rows, &frame);
             println!("{places} places, {used} used, quarters {name}: verified {ours:.0} ns, plain {theirs:.0} ns, pairwise {pairs:.0} ns; ratio to plain {:.2}, to pairwise {:.2}", ours / theirs, ours / pairs);
         }
     }
