@@ -1,7 +1,7 @@
 /*
  * Maruzhenu: HTTP Datagrams and the Capsule Protocol (RFC 9297).
  *
- * Link with libcapi.a. It needs memcpy, memmove and memset, allocates nothing, keeps no state and calls nothing back.
+ * Link with libmaruzhenu.a. It needs memcpy, memmove and memset, allocates nothing, keeps no state and calls nothing back.
  *
  * No function has a precondition on the values of its arguments: every number is read as something (see "Readings of
  * numbers"), and every call answers. What C itself must hold is left to the caller:

@@ -4,14 +4,15 @@ use Prim.Native.Nat.{ℕ, zero, suc, _+_, _*_, _/_, _%_, _≤_, _<_}
 use native.Mathlib.Omega.{arith}
 use mathlib.Core.Bool.{Bool, true, false, cond, not, and-true, and-false, or-false}
 use mathlib.Core.List.{List, [], _∷_}
-use lib.Dec.{leb, eqb}
+use lib.Dec.{leb, ltb, eqb}
 use lib.ListN.{length, getD, drop}
 use borrow.Author.Tests.{eq-eqb, ne-eqb, lt-ltb, leb-true, leb-false}
 use Rattle.streams.specs.declared.record.StreamRecord.{StreamRecord}
 use Rattle.streams.specs.declared.record.Side.the-variants.{Send}
 use Rattle.streams.specs.declared.record.Side.{Side}
 use Rattle.streams.specs.declared.table.Closing.the-variants.{Closed}
-use Rattle.streams.specs.Records.{blank, bothClosed, holds, withClosed, closedSide}
+use Rattle.wire.specs.Units.{largestQuarter}
+use Rattle.streams.specs.Records.{blank, bothClosed, isBlank, isBadRecord, holds, withClosed, closedSide}
 use Rattle.streams.specs.Tables.{Table, isBad, closeAt}
 use Rattle.streams.specs.declared.table.Found.the-variants.{At}
 use Rattle.streams.specs.Search.{shift}
@@ -26,6 +27,17 @@ frees-send r = ap not (sym (or-false (r .receive)))
 pub twice-not : (b : Bool) → b ≡ not (not b)
 twice-not true = refl
 twice-not false = refl
+
+-- ---- records that are told by their marks alone
+
+-- both sides open, with semantics
+pub open-bad : (q m : ℕ) → m ≡ 15 → ltb largestQuarter q ≡ isBadRecord (recordOf q m)
+unfolding isBadRecord recordOf bothClosed
+open-bad q m e = rw e (sym (or-false (ltb largestQuarter q)))
+
+pub blank-bad : (q m : ℕ) → m ≡ 0 → not (eqb q 0) ≡ isBadRecord (recordOf q m)
+unfolding isBadRecord recordOf isBlank bothClosed
+blank-bad q m e = rw e (ap not (sym (and-true (eqb q 0))))
 
 -- ---- marks
 

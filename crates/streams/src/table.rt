@@ -96,7 +96,17 @@ fn bad_at(quarters: &[u64], marks: &[u8], i: usize) -> bool
     requires { ⌜ (i < length (now quarters)) × (i < length (now marks)) ⌝ }
     ensures { λ r. ⌜ r ≡ isBadRecord (rowAt (now (quarters .entry)) (now (marks .entry)) i) ⌝ }
 {
-    StreamRecord::of(quarters[i], marks[i]).is_bad()
+    let quarter = quarters[i];
+    let mark = marks[i];
+    // most records are open on both sides with semantics, or blank
+    if mark == 15 {
+        let max = Quarter::MAX;
+        return quarter > max.0;
+    }
+    if mark == 0 {
+        return quarter != 0;
+    }
+    StreamRecord::of(quarter, mark).is_bad()
 }
 
 // Whether the record at i is used and a later one has its quarter, where the buckets of the later ones are marked: they are searched only if
