@@ -133,20 +133,20 @@ record-so : (r : StreamRecord) (place limit rest : ℕ) → JudgedSo (judgedReco
 unfolding judgedRecord
 record-so r place limit rest = pick JudgedSo (r .receive) _ _ (pick JudgedSo (r .semantics) _ _ (pick JudgedSo (leb rest limit) _ _ tt tt) tt) tt
 
-read-so : (t : Table) (streams limit : ℕ) (frame : List ℕ) (v : Varint) → JudgedSo (judgedRead t streams limit frame v)
+read-so : (t : Table) (streams limit n : ℕ) (v : Varint) → JudgedSo (judgedRead t streams limit n v)
 unfolding judgedRead judgedQuarter
-read-so t streams limit frame Incomplete = tt
-read-so t streams limit frame (Whole q size) = pick JudgedSo (leb q largestQuarter) _ _ (pick JudgedSo (ltb q streams) _ _ (go (find q t)) tt) tt
+read-so t streams limit n Incomplete = tt
+read-so t streams limit n (Whole q size) = pick JudgedSo (leb q largestQuarter) _ _ (pick JudgedSo (ltb q streams) _ _ (go (find q t)) tt) tt
   where
-    go : (f : Found) → JudgedSo (judgedFound t f limit (length frame - size))
+    go : (f : Found) → JudgedSo (judgedFound t f limit (n - size))
     go Nothing = unfold judgedFound in tt
-    go (At i) = unfold judgedFound in record-so (getD t i blank) i limit (length frame - size)
+    go (At i) = unfold judgedFound in record-so (getD t i blank) i limit (n - size)
 
 judge-so : (qs ms : List ℕ) (streams limit : ℕ) (frame : List ℕ) → JudgedSo (judgedRows qs ms streams limit frame)
 unfolding judgedRows judgedOf
 judge-so qs ms streams limit frame =
     pick JudgedSo (eqb (length qs) (length ms)) _ _ (pick JudgedSo (isBad (tableOf qs ms)) _ _ (λ z. omega arith)
-    (pick JudgedSo (leb limit 65535) _ _ (pick JudgedSo (leb streams (2 ^ 60)) _ _ (read-so (tableOf qs ms) streams limit frame (readVarint frame)) (λ z. omega arith)) (λ z. omega arith))) (λ z. omega arith)
+    (pick JudgedSo (leb limit 65535) _ _ (pick JudgedSo (leb streams (2 ^ 60)) _ _ (read-so (tableOf qs ms) streams limit (length frame) (readVarint frame)) (λ z. omega arith)) (λ z. omega arith))) (λ z. omega arith)
 
 -- ---- writers
 
