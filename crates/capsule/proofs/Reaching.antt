@@ -3,8 +3,8 @@ use mathlib.Core.Path.{_≡_, refl, sym, ap, _∙_}
 use Prim.Native.Nat.{ℕ, _+_, _-_, _*_, _%_, _^_, _≤_, _<_}
 use native.Mathlib.Omega.{arith}
 use mathlib.Core.Bool.{Bool, true, false}
-use lib.Dec.{leb, ltb}
-use borrow.Author.Tests.{le-leb, lt-leb, lt-ltb, le-ltb, leb-true, ltb-true, ltb-false}
+use lib.Dec.{leb, ltb, eqb}
+use borrow.Author.Tests.{eq-eqb, ne-eqb, eqb-true, le-leb, lt-leb, lt-ltb, le-ltb, leb-true, ltb-true, ltb-false}
 use mathlib.Core.List.{List, [], _∷_}
 use lib.ListN.{length, getD, take, drop, length-drop}
 use Rattle.wire.specs.declared.partial.Partial.{Partial}
@@ -21,12 +21,10 @@ use Rattle.capsule.specs.declared.plan.Reached.{Reached}
 use Rattle.capsule.specs.declared.plan.Header.{Header}
 use Rattle.capsule.specs.declared.plan.Header.the-variants.{Long, Short}
 use Rattle.capsule.specs.declared.plan.Reached.the-variants.{Stops, Value}
-use Rattle.capsule.specs.declared.reader.Phase.{Phase}
-use Rattle.capsule.specs.declared.reader.Phase.the-variants.{InType}
-use Rattle.capsule.specs.Reader.{noBytes, isMakeablePhase, planValue, planType, planOf}
+use Rattle.capsule.specs.Reader.{noBytes, planValue, planType}
 use Rattle.capsule.specs.Reaching.{planBy, Within, Reaches}
-use Rattle.capsule.specs.Short.{shortHeader}
-use Rattle.capsule.proofs.Planning.{length-ends, type-ends}
+use Rattle.capsule.specs.Short.{shortHeader, firstHeader}
+use Rattle.capsule.proofs.Planning.{zero-one, length-ends, type-ends}
 
 module _ (op : Opening) (p : List ℕ) where
   pub stops : (plan plan′ : Plan) → plan ≡ plan′ → Reaches op p (Stops plan) plan′
@@ -132,11 +130,25 @@ pub short-reached : (op : Opening) (p : List ℕ) (at t n : ℕ) → getD p 2 0 
 unfolding ShortReaches
 short-reached op p at t n c e = rw e at (short-reaches op p c)
 
--- before the first byte of a type
-pub from-start : (op : Opening) (p : List ℕ) (r : Reached) (phase : Phase) (part : Partial) → phase ≡ InType part → isMakeablePhase phase ≡ true → part .have ≡ 0
-    → Reaches op p r (planType op p noBytes) → Reaches op p r (planOf op p phase)
-unfolding planOf isMakeablePhase isPartial
-from-start op p r phase part e m h d =
-    let z : part .raw ≡ 0 = starts-zero (part .raw) (rw h at (rw e at m)) in
-    let isPart : noBytes ≡ part = λ i. record { have = sym h i; raw = sym z i } in
-    rw (e, ← isPart) d
+-- ---- where bytes of the type came before
+
+pub first-none : (have : ℕ) (p : List ℕ) → have ≡ 0 → shortHeader p ≡ firstHeader have p
+unfolding firstHeader
+first-none have p e = rw (eq-eqb have 0 e)
+
+pub first-some : (have : ℕ) (p : List ℕ) → (have ≡ 0 → ⊥) → Long ≡ firstHeader have p
+unfolding firstHeader
+first-some have p h = rw (ne-eqb have 0 h)
+
+pub first-reached : (op : Opening) (p : List ℕ) (part : Partial) → isPartial part ≡ true → getD p 2 0 < 256 → (at t n : ℕ) → firstHeader (part .have) p ≡ Short at t n
+    → Reaches op p (Value at t n n) (planType op p part)
+unfolding firstHeader isPartial
+first-reached op p part m c at t n e = go (eqb (part .have) 0) refl
+  where
+    go : (b : Bool) → eqb (part .have) 0 ≡ b → Reaches op p (Value at t n n) (planType op p part)
+    go false f = zero-one (cc (rw f at e))
+    go true f =
+        let h : part .have ≡ 0 = eqb-true (part .have) 0 f in
+        let z : part .raw ≡ 0 = starts-zero (part .raw) (rw h at m) in
+        let isPart : noBytes ≡ part = λ i. record { have = sym h i; raw = sym z i } in
+        rw (← isPart) (short-reached op p at t n c (rw f at e))

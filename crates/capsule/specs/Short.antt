@@ -3,7 +3,7 @@ use Prim.Native.Nat.{ℕ, _+_, _-_, _*_}
 use mathlib.Core.Bool.{Bool, false, cond}
 use mathlib.Core.List.{List}
 use lib.ListN.{length, getD}
-use lib.Dec.{leb, ltb}
+use lib.Dec.{leb, ltb, eqb}
 use Rattle.capsule.specs.declared.opening.Opening.{Opening}
 use Rattle.capsule.specs.declared.plan.Header.{Header}
 use Rattle.capsule.specs.declared.plan.Header.the-variants.{Long, Short}
@@ -27,6 +27,10 @@ shortHeader p =
     let t = getD p 0 0 in
     let n = getD p 1 0 in
     cond (leb 3 (length p)) (cond (leb t 63) (cond (ltb n 64) (Short 2 t n) (cond (leb n 127) (Short 3 t ((n - 64) * 256 + getD p 2 0)) Long)) Long) Long
+
+-- where `have` bytes of the type came before: only a type that starts in the list is looked at
+unfoldable pub firstHeader : ℕ → List ℕ → Header
+firstHeader have p = cond (eqb have 0) (shortHeader p) Long
 
 -- the value stands in the piece, too
 unfoldable pub standsWhole : List ℕ → Header → Bool

@@ -3,10 +3,10 @@ ghost use mathlib.Core.Path.{_≡_};
 ghost use Prim.Native.Nat.{_≤_};
 ghost use mathlib.Core.Bool.{true};
 ghost use lib.ListN.{length};
-ghost use Rattle.wire.specs.Partial.{partial};
-ghost use Rattle.capsule.specs.Reader.{noBytes, isMakeablePhase, planValue, planHead, planLength, planType, planOf, heldOf};
+ghost use Rattle.wire.specs.Partial.{partial, isPartial};
+ghost use Rattle.capsule.specs.Reader.{isMakeablePhase, planValue, planHead, planLength, planType, planOf, heldOf};
 ghost use Rattle.capsule.specs.Reaching.{Reaches};
-ghost use Rattle.capsule.specs.Short.{shortHeader};
+ghost use Rattle.capsule.specs.Short.{shortHeader, firstHeader};
 use crate::opening::Opening;
 use crate::reader::Ended;
 use crate::reader::Phase;
@@ -161,12 +161,23 @@ pub(crate) fn short_header(piece: &[u8]) -> Header
     }
 }
 
-// From the start of a capsule.
-fn reach_from_start(op: Opening, piece: &[u8]) -> Reached
-    ensures { λ r. ⌜ Reaches op (now (piece .entry)) r (planType op (now (piece .entry)) noBytes) ⌝ }
+// The same where no byte of the type has come before.
+fn first_header(piece: &[u8], have: u8) -> Header
+    ensures { λ r. ⌜ r ≡ firstHeader have (now (piece .entry)) ⌝ }
 {
-    match short_header(piece) {
-        Header::Long => reach_by_type(op, piece, Partial::EMPTY),
+    if have != 0 {
+        return Header::Long;
+    }
+    short_header(piece)
+}
+
+// The general way stands at one place, so that nothing is put into memory for it on the short one.
+fn reach_in_type(op: Opening, piece: &[u8], part: Partial) -> Reached
+    requires { ⌜ isPartial part ≡ true ⌝ }
+    ensures { λ r. ⌜ Reaches op (now (piece .entry)) r (planType op (now (piece .entry)) part) ⌝ }
+{
+    match first_header(piece, part.have) {
+        Header::Long => reach_by_type(op, piece, part),
         Header::Short { at, ctype, size } => Reached::Value {
             at: at,
             ctype: ctype,
@@ -181,12 +192,7 @@ fn reach(op: Opening, piece: &[u8], phase: Phase) -> Reached
     ensures { λ r. ⌜ Reaches op (now (piece .entry)) r (planOf op (now (piece .entry)) phase) ⌝ }
 {
     match phase {
-        Phase::InType(part) => {
-            if part.have == 0 {
-                return reach_from_start(op, piece);
-            }
-            reach_by_type(op, piece, part)
-        }
+        Phase::InType(part) => reach_in_type(op, piece, part),
         Phase::InLength(ctype, part) => reach_by_length(op, piece, 0, ctype, part.have, part.raw),
         Phase::InValue(ctype, size, left) => Reached::Value {
             at: 0,
