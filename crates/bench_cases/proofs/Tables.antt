@@ -20,8 +20,9 @@ use Rattle.capsule.specs.Reader.{fresh, isOpening, openOf, isMakeablePhase, isM
 use Rattle.capsule_laws.specs.Claims.{leftBy, HandedOn, ifDelivered, delivered}
 use Rattle.streams.specs.Records.{bothClosed, isBlank, isBadRecord, holds}
 use Rattle.streams.specs.Tables.{anyBad, standsIn, standsTwice, isBad, next, find}
-use Rattle.datagram.specs.Judging.{judgedRecord, judgedFound, judgedQuarter, judgedRead, judgedOf, behind, isDelivered, ifDelivered as onlyDeliveredFrame, payloadOf}
-use Rattle.datagram.specs.Sending.{capsuleBytes, frameBytes, agreed, sendingRecord, sendingQuarter, sendingOf, putCapsule, putFrame, capsuleWritten, frameWritten, writeCapsule, writeFrame}
+use Rattle.streams.specs.Rows.{recordOf, tableOf}
+use Rattle.datagram.specs.Judging.{ruleOf, judgedRows, payloadRows, judgedRecord, judgedFound, judgedQuarter, judgedRead, judgedOf, behind, isDelivered, ifDelivered as onlyDeliveredFrame, payloadOf}
+use Rattle.datagram.specs.Sending.{capsuleBytes, frameBytes, agreed, sendingRecord, sendingQuarter, sendingOf, putCapsule, putFrame, capsuleWritten, frameWritten, writeCapsule, writeFrame, sendingRows, writeCapsuleRows, writeFrameRows}
 use Rattle.bench_cases.specs.Starred.{outcomeOf, AllStarred}
 use Rattle.bench_cases.specs.Pins.{All, onTheWire, onStreams, bothRefused, unmakeable, onLists, onFrames, Pinned, intermediary, refusedBetween}
 
@@ -39,7 +40,7 @@ on-the-wire = (refl, (refl, (refl, (refl, (refl, (refl, (refl, (refl, (refl, (re
 
 on-streams : All onStreams
 unfolding outcomeOf parts cut front capsuleAt readVarint sizeOf valueOf num numFrom largest bytesOf partialOf heldBytes starts isPartial takenOf takeVarint kindOf reportBy reportOf reported forwardsBy forwards gathersBy gathers onlyIf fromCapsules fromTail fromParts forwarded onlyDelivered endOf ifDelivered delivered outputVerdict lentVerdict isOpening openOf isMakeablePhase isMakeable verdictOf planValue planHead planLength planType planOf heldOf wrote stored fedBy takeOf feedBy feedOf endAt closeOf
-on-streams = (refl, (refl, (refl, (refl, (refl, (refl, (refl, (refl, (refl, (refl, (refl, (refl, (refl, (refl, (refl, (refl, (refl, (refl, (refl, (refl, (refl, (refl, (refl, (refl, (refl, (refl, (refl, (refl, (refl, tt)))))))))))))))))))))))))))))
+on-streams = (refl, (refl, (refl, (refl, (refl, (refl, (refl, (refl, (refl, (refl, (refl, (refl, (refl, (refl, (refl, (refl, (refl, (refl, (refl, (refl, (refl, (refl, (refl, (refl, (refl, (refl, (refl, (refl, (refl, (refl, (refl, (refl, tt))))))))))))))))))))))))))))))))
 
 on-unmakeable : All (bothRefused unmakeable)
 unfolding sizeOf largest starts isPartial isOpening isMakeablePhase isMakeable verdictOf feedBy feedOf closeOf
@@ -50,8 +51,8 @@ unfolding readVarint sizeOf valueOf num numFrom largest bytesOf partialOf heldBy
 on-lists = (refl, (refl, (refl, tt)))
 
 on-frames : All onFrames
-unfolding judgedRecord judgedFound judgedQuarter judgedRead judgedOf behind isDelivered onlyDeliveredFrame payloadOf bothClosed isBlank isBadRecord holds anyBad standsIn standsTwice isBad next find capsuleBytes frameBytes agreed sendingRecord sendingQuarter sendingOf putCapsule putFrame capsuleWritten frameWritten writeCapsule writeFrame readVarint sizeOf valueOf num numFrom encode encodeAs leastWidth bytesOf writeAt refuses quarterOf isRequest largestQuarter
-on-frames = ((refl, refl), ((refl, refl), ((refl, refl), ((refl, refl), ((refl, refl), ((refl, refl), ((refl, refl), ((refl, refl), ((refl, refl), ((refl, refl), ((refl, refl), ((refl, refl), ((refl, refl), ((refl, refl), (refl, (refl, (refl, (refl, (refl, (refl, (refl, (refl, (refl, (refl, (refl, (refl, (refl, (refl, (refl, (refl, (refl, (refl, tt))))))))))))))))))))))))))))))))
+unfolding recordOf tableOf ruleOf judgedRows payloadRows sendingRows writeCapsuleRows writeFrameRows judgedRecord judgedFound judgedQuarter judgedRead judgedOf behind isDelivered onlyDeliveredFrame payloadOf bothClosed isBlank isBadRecord holds anyBad standsIn standsTwice isBad next find capsuleBytes frameBytes agreed sendingRecord sendingQuarter sendingOf putCapsule putFrame capsuleWritten frameWritten writeCapsule writeFrame readVarint sizeOf valueOf num numFrom encode encodeAs leastWidth bytesOf writeAt refuses quarterOf isRequest largestQuarter
+on-frames = ((refl, refl), ((refl, refl), ((refl, refl), ((refl, refl), ((refl, refl), ((refl, refl), ((refl, refl), ((refl, refl), ((refl, refl), ((refl, refl), ((refl, refl), ((refl, refl), ((refl, refl), ((refl, refl), (refl, (refl, (refl, (refl, (refl, (refl, (refl, (refl, (refl, (refl, (refl, (refl, (refl, (refl, (refl, (refl, (refl, (refl, (refl, (refl, (refl, (refl, (refl, (refl, (refl, (refl, (refl, ((refl, refl), ((refl, refl), ((refl, refl), ((refl, refl), ((refl, refl), ((refl, refl), (refl, (refl, (refl, (refl, (refl, (refl, ((refl, refl), ((refl, refl), ((refl, refl), ((refl, refl), ((refl, refl), ((refl, refl), ((refl, refl), ((refl, refl), ((refl, refl), tt))))))))))))))))))))))))))))))))))))))))))))))))))))))))))))))
 
 pub pinned : Pinned
 pinned = (on-the-wire, on-streams, on-unmakeable, on-lists, on-frames)

@@ -40,8 +40,9 @@ use Rattle.streams.specs.Records.{blank, opened}
 use Rattle.streams.specs.Tables.{Table}
 use Rattle.datagram.specs.declared.judge.Judged.{Judged}
 use Rattle.datagram.specs.declared.judge.Judged.the-variants as judged
-use Rattle.datagram.specs.Judging.{judgedOf, payloadOf}
-use Rattle.datagram.specs.Sending.{writeCapsule, writeFrame}
+use mathlib.Core.Option.{Option, none, some}
+use Rattle.datagram.specs.Judging.{judgedOf, payloadOf, judgedRows, payloadRows, ruleOf, isDelivered}
+use Rattle.datagram.specs.Sending.{writeCapsule, writeFrame, writeCapsuleRows, writeFrameRows}
 
 pub data Pin : Type 0 where
   -- bytes, and what is read at their front
@@ -66,6 +67,12 @@ pub data Pin : Type 0 where
   capsules : (table : Table) (id : ℕ) (payload out : List ℕ) (place : ℕ) → Written → (after : List ℕ) → Pin
   -- besides, our setting, the peer's and the path size
   frames : (table : Table) (id ours peers path : ℕ) (payload out : List ℕ) (place : ℕ) → Written → (after : List ℕ) → Pin
+  -- the same over two rows: the quarters and the marks
+  judgesRows : (qs ms : List ℕ) (streams limit : ℕ) (frame : List ℕ) → Judged → (payload : List ℕ) → Pin
+  capsulesRows : (qs ms : List ℕ) (id : ℕ) (payload out : List ℕ) (place : ℕ) → Written → (after : List ℕ) → Pin
+  framesRows : (qs ms : List ℕ) (id ours peers path : ℕ) (payload out : List ℕ) (place : ℕ) → Written → (after : List ℕ) → Pin
+  -- the number of a judgement's rule, and whether it delivers
+  rules : Judged → Option ℕ → Bool → Pin
 
 abbrev pub Holds : Pin → Type 0
 Holds (reads s r) = readVarint s ≡ r
@@ -80,6 +87,10 @@ Holds (answers op cs rs) = run readerCall (fresh op) cs .1 ≡ rs
 Holds (judges t n limit bytes j payload) = (judgedOf t n limit bytes ≡ j) × (payloadOf t n limit bytes ≡ payload)
 Holds (capsules t id payload out place r after) = writeCapsule t (record { 0 = id }) payload out place ≡ writing r after
 Holds (frames t id ours peers path payload out place r after) = writeFrame t (record { 0 = id }) ours peers path payload out place ≡ writing r after
+Holds (judgesRows qs ms n limit bytes j payload) = (judgedRows qs ms n limit bytes ≡ j) × (payloadRows qs ms n limit bytes ≡ payload)
+Holds (capsulesRows qs ms id payload out place r after) = writeCapsuleRows qs ms (record { 0 = id }) payload out place ≡ writing r after
+Holds (framesRows qs ms id ours peers path payload out place r after) = writeFrameRows qs ms (record { 0 = id }) ours peers path payload out place ≡ writing r after
+Holds (rules j n b) = (ruleOf j ≡ n) × (isDelivered j ≡ b)
 
 abbrev pub All : List Pin → Type 0
 All [] = Unit {0}
@@ -152,6 +163,10 @@ onStreams =
     -- a reserved type is unknown; a zero length in two bytes ends a capsule
     ∷ lists Intermediary 9 false (0x40 ∷ 0x40 ∷ 0 ∷ 0x17 ∷ 0x40 ∷ 0 ∷ []) (outcome (Passed 64 0 ∷ Passed 23 0 ∷ []) [] (0x40 ∷ 0x40 ∷ 0 ∷ 0x17 ∷ 0x40 ∷ 0 ∷ []) closedAs.Clean)
     ∷ lists Endpoint 9 false (0 ∷ 0x40 ∷ 0 ∷ []) (outcome (Delivered 0 ∷ []) ([] ∷ []) [] closedAs.Clean)
+    -- with the draft setting on type 0 counts as before; an intermediary takes the draft type, too
+    ∷ lists Endpoint 9 true (0 ∷ 1 ∷ 5 ∷ []) (outcome (Delivered 1 ∷ []) ((5 ∷ []) ∷ []) [] closedAs.Clean)
+    ∷ lists Intermediary 9 true (0x80 ∷ 0xff ∷ 0x37 ∷ 0xa5 ∷ 1 ∷ 0x7a ∷ []) (outcome (Delivered 1 ∷ []) ((0x7a ∷ []) ∷ []) [] closedAs.Clean)
+    ∷ lists Intermediary 9 false (0x80 ∷ 0xff ∷ 0x37 ∷ 0xa5 ∷ 1 ∷ 0x7a ∷ []) (outcome (Passed 16725925 1 ∷ []) [] (0x80 ∷ 0xff ∷ 0x37 ∷ 0xa5 ∷ 1 ∷ 0x7a ∷ []) closedAs.Clean)
     -- an empty piece: nothing happens, or the refusal of any other
     ∷ feeds (fresh (intermediary 2)) [] (lent (nines 2) (nines 8)) (fresh (intermediary 2)) (fedAs.Took 0 0 Nothing) (lent (nines 2) (nines 8))
     ∷ feeds (fresh (intermediary 2)) [] (lent (nines 1) (nines 8)) (fresh (intermediary 2)) (fedAs.Refused (refusal 4)) (lent (nines 1) (nines 8))
@@ -295,6 +310,40 @@ onFrames =
     -- quarter, not stream ID: stream 252 is 3f, stream 256 is 40 40
     ∷ frames (one (opened (record { 0 = 63 }) true)) 252 1 1 9 [] (nines 2) 0 (Wrote 1) (0x3f ∷ 9 ∷ [])
     ∷ frames (one (opened (record { 0 = 64 }) true)) 256 1 1 9 [] (nines 2) 0 (Wrote 2) (0x40 ∷ 0x40 ∷ [])
+    -- both settings are 1, not merely equal or known
+    ∷ frames three′ 4 0 0 9 (7 ∷ []) [] 0 (Refused (refusal 11)) []
+    ∷ frames three′ 4 0 1 9 (7 ∷ []) [] 0 (Refused (refusal 11)) []
+    ∷ frames three′ 4 1 0 9 (7 ∷ []) [] 0 (Refused (refusal 11)) []
+    ∷ frames three′ 4 2 2 9 (7 ∷ []) [] 0 (Refused (refusal 11)) []
+    -- the longest payload to send; 12 stands before 6, 6 before 14, and both before 5
+    ∷ capsules three′ 4 (nines 65535) [] 0 (Refused (refusal 5)) []
+    ∷ capsules three′ 4 (nines 65536) [] 0 (Refused (refusal 6)) []
+    ∷ capsules (one (mark 1 true false false)) 4 (nines 65536) [] 0 (Refused (refusal 12)) []
+    ∷ frames three′ 4 1 1 0 (nines 65535) [] 0 (Refused (refusal 14)) []
+    ∷ frames three′ 4 1 1 0 (nines 65536) [] 0 (Refused (refusal 6)) []
+    -- nothing is delivered by a refusal, nor behind a quarter that is too large
+    ∷ judges bad 9 9 (1 ∷ 7 ∷ []) (judged.Refused (refusal 15)) []
+    ∷ judges three′ 9 9 (0xd0 ∷ 0 ∷ 0 ∷ 0 ∷ 0 ∷ 0 ∷ 0 ∷ 0 ∷ 7 ∷ []) judged.QuarterTooLarge []
+    -- rows of unequal length are no table; marks 1, 2, 4, 8
+    ∷ judgesRows (1 ∷ 2 ∷ []) (15 ∷ []) 9 9 (1 ∷ 7 ∷ []) (judged.Refused (refusal 15)) []
+    ∷ judgesRows (1 ∷ []) (15 ∷ []) 9 9 (1 ∷ 7 ∷ []) (judged.Delivered 0) (7 ∷ [])
+    ∷ judgesRows (1 ∷ []) (13 ∷ []) 9 9 (1 ∷ 7 ∷ []) judged.ReceiveClosed []
+    ∷ judgesRows (1 ∷ []) (7 ∷ []) 9 9 (1 ∷ 7 ∷ []) judged.NoSemantics []
+    ∷ capsulesRows (1 ∷ 2 ∷ []) (15 ∷ []) 4 (7 ∷ []) (nines 3) 0 (Refused (refusal 15)) (nines 3)
+    ∷ capsulesRows (1 ∷ []) (15 ∷ []) 4 (7 ∷ []) (nines 3) 0 (Wrote 3) (0 ∷ 1 ∷ 7 ∷ [])
+    ∷ framesRows (1 ∷ 2 ∷ []) (15 ∷ []) 4 1 1 9 (7 ∷ []) (nines 2) 0 (Refused (refusal 15)) (nines 2)
+    ∷ framesRows (1 ∷ []) (15 ∷ []) 4 1 2 9 (7 ∷ []) (nines 2) 0 (Refused (refusal 11)) (nines 2)
+    ∷ framesRows (1 ∷ []) (15 ∷ []) 4 2 1 9 (7 ∷ []) (nines 2) 0 (Refused (refusal 11)) (nines 2)
+    ∷ framesRows (1 ∷ []) (15 ∷ []) 4 1 1 9 (7 ∷ []) (nines 2) 0 (Wrote 2) (1 ∷ 7 ∷ [])
+    ∷ rules (judged.Refused (refusal 15)) none false
+    ∷ rules judged.ShortFrame (some 1) false
+    ∷ rules judged.QuarterTooLarge (some 2) false
+    ∷ rules judged.BeyondLimit (some 3) false
+    ∷ rules judged.NoStream (some 4) false
+    ∷ rules judged.ReceiveClosed (some 5) false
+    ∷ rules judged.NoSemantics (some 6) false
+    ∷ rules judged.TooLong (some 7) false
+    ∷ rules (judged.Delivered 0) (some 8) true
     ∷ []
 
 abbrev pub Pinned : Type 0

@@ -97,6 +97,19 @@ onTables =
     ∷ rows (0 ∷ []) [] true
     ∷ rows (0 ∷ 7 ∷ []) (0 ∷ 3 ∷ []) false
     ∷ rows (7 ∷ 7 ∷ []) (5 ∷ 3 ∷ []) true
+    -- a bad record, and a quarter that stands twice, behind a good one; the first place is found even then
+    ∷ tables (blank ∷ rec true 1 false false true ∷ []) true
+    ∷ tables (blank ∷ rec true 1 true true true ∷ rec true 1 true true true ∷ []) true
+    ∷ finds (rec true 1 true true true ∷ rec true 1 true true true ∷ []) 1 (At 0)
+    -- marks 1, 2, 4 and 8; a higher bit says nothing
+    ∷ rows (0 ∷ []) (1 ∷ []) true
+    ∷ rows (0 ∷ []) (2 ∷ []) true
+    ∷ rows (0 ∷ []) (4 ∷ []) true
+    ∷ rows (0 ∷ []) (8 ∷ []) true
+    ∷ rows (0 ∷ []) (9 ∷ []) true
+    ∷ rows (0 ∷ []) (16 ∷ []) false
+    ∷ rows (0 ∷ []) (24 ∷ []) true
+    ∷ rows (0 ∷ []) (48 ∷ []) false
     ∷ []
 
 abbrev pub onCalls : List Pin
@@ -129,6 +142,12 @@ onCalls =
     (closing.Closed 1 (rec true 1 false true false) false ∷ closing.Closed 1 (rec true 1 false true false) false ∷ closing.Closed 1 blank true ∷ closing.Refused (refusal 10) ∷ [])
     ∷ closes full 0 (Send ∷ Receive ∷ [])
     (closing.Closed 0 (rec true 0 true false true) false ∷ closing.Closed 0 blank true ∷ [])
+    -- the semantics stays, whichever side is closed
+    ∷ closes (rec true 1 true true true ∷ []) 4 (Receive ∷ []) (closing.Closed 0 (rec true 1 false true true) false ∷ [])
+    -- mark 2 is the receive side, 4 the send side
+    ∷ closesRows (1 ∷ []) (11 ∷ []) 4 Receive (closing.Closed 0 blank true)
+    ∷ closesRows (1 ∷ []) (13 ∷ []) 4 Send (closing.Closed 0 blank true)
+    ∷ closesRows (1 ∷ []) (15 ∷ []) 4 Send (closing.Closed 0 (rec true 1 true false true) false)
     ∷ []
 
 abbrev pub Pinned : Type 0
@@ -136,11 +155,11 @@ Pinned = All onTables × All onCalls
 
 on-tables : All onTables
 unfolding isBad anyBad standsIn standsTwice isBadRecord isBlank bothClosed holds largestQuarter find next recordOf tableOf isBadRows
-on-tables = (refl, (refl, (refl, (refl, (refl, (refl, (refl, (refl, (refl, (refl, (refl, (refl, (refl, (refl, (refl, (refl, (refl, (refl, (refl, (refl, (refl, (refl, (refl, tt)))))))))))))))))))))))
+on-tables = (refl, (refl, (refl, (refl, (refl, (refl, (refl, (refl, (refl, (refl, (refl, (refl, (refl, (refl, (refl, (refl, (refl, (refl, (refl, (refl, (refl, (refl, (refl, (refl, (refl, (refl, (refl, (refl, (refl, (refl, (refl, (refl, (refl, (refl, tt))))))))))))))))))))))))))))))))))
 
 on-calls : All onCalls
 unfolding isBad anyBad standsIn standsTwice isBadRecord isBlank bothClosed holds largestQuarter isRequest quarterOf find next lowestFree openAt openQuarter openingOf withClosed closedSide closeAt closeQuarter closingOf tableOpened tableClosed closings recordOf tableOf openingRows closingRows
-on-calls = (refl, (refl, (refl, (refl, (refl, (refl, (refl, (refl, (refl, (refl, (refl, (refl, (refl, (refl, (refl, (refl, (refl, (refl, (refl, (refl, (refl, tt)))))))))))))))))))))
+on-calls = (refl, (refl, (refl, (refl, (refl, (refl, (refl, (refl, (refl, (refl, (refl, (refl, (refl, (refl, (refl, (refl, (refl, (refl, (refl, (refl, (refl, (refl, (refl, (refl, (refl, tt)))))))))))))))))))))))))
 
 pub pinned : Pinned
 pinned = (on-tables, on-calls)
