@@ -184,6 +184,19 @@ fn try_between(words: &mut [u64; 8], piece: &[u8], gathering: &mut [u8], output:
             copied(words);
             Tried::Fed(fed_report(consumed, written, report))
         }
+        Whole::Cut {
+            written,
+            ctype,
+            size,
+            left,
+        } => {
+            copied(words);
+            words[3] = 2;
+            words[4] = ctype;
+            words[5] = size;
+            words[6] = left;
+            Tried::Fed(fed_took(piece.len(), written, Ended::Nothing))
+        }
     }
 }
 
@@ -200,6 +213,18 @@ fn try_within(words: &mut [u64; 8], piece: &[u8], gathering: &mut [u8], output: 
             copied(words);
             words[6] = left - (piece.len() as u64);
             Tried::Fed(fed_took(piece.len(), written, Ended::Nothing))
+        }
+        Inside::Ended {
+            consumed,
+            written,
+            report,
+        } => {
+            copied(words);
+            words[3] = 0;
+            words[4] = 0;
+            words[5] = 0;
+            words[6] = 0;
+            Tried::Fed(fed_report(consumed, written, report))
         }
     }
 }

@@ -33,7 +33,7 @@ use Rattle.capsule.specs.Kinds.{reportOf, forwards, gathers}
 use Rattle.capsule.specs.Calls.{Lent, lent, lentVerdict}
 use Rattle.capsule.specs.Reader.{noBytes, fresh, isOpening, isMakeablePhase, isMakeable, verdictOf, planValue, planType, planOf, heldOf, wrote, stored, Feeding, feeding, takeOf, feedOf}
 use Rattle.capsule.specs.Moves.{Wrote}
-use Rattle.capsule.specs.Short.{shortHeader, standsWhole, WholeFed, wholeFed, wholeIn, wholeOf, inValue, InsideFed, insideFed, insideIn, insideOf}
+use Rattle.capsule.specs.Short.{shortHeader, isShort, WholeFed, wholeFed, wholeIn, wholeBy, wholeOf, inValue, InsideFed, insideFed, insideIn, insideBy, insideOf}
 use Rattle.capsule.proofs.Planning.{zero-one, value-ends, value-goes}
 use Rattle.capsule.proofs.Moving.{takes}
 use Rattle.capsule.proofs.Reaching.{valued, short-reached}
@@ -74,174 +74,199 @@ no-bytes-held : (op : Opening) (t n left : ℕ) → (noBytes ≡ heldOf (InType 
 unfolding heldOf
 no-bytes-held op t n left = (refl, refl)
 
--- the answers of the short ways, as a feeding gives them
-abbrev capsuleTook : Whole → FeedAnswer
-capsuleTook wholeAs.Not = fedAs.Refused unmakeableState
-capsuleTook (wholeAs.Took consumed written report) = fedAs.Took consumed written (Capsule report)
-
-abbrev pieceTook : ℕ → Inside → FeedAnswer
-pieceTook consumed insideAs.Not = fedAs.Refused unmakeableState
-pieceTook consumed (insideAs.Took written) = fedAs.Took consumed written Nothing
-
--- ---- a whole capsule between two others
+-- ---- between two capsules
 
 module _ (op : Opening) (p : List ℕ) (b : Lent) where
-  pub whole-refused : (why : Refusal) → Refused why ≡ verdictOf (fresh op) (length p) (length (b .gathering)) (length (b .output)) → wholeFed wholeAs.Not b ≡ wholeOf op p b
-  unfolding wholeOf wholeIn
-  whole-refused why e = go (standsWhole p (shortHeader p))
-    where
-      f : feeding (fresh op) (fedAs.Refused why) b ≡ feedOf (fresh op) p b
-      f = feed-refused (fresh op) p b why (sym e)
+  pub whole-long : shortHeader p ≡ Long → wholeFed wholeAs.Not b ≡ wholeOf op p b
+  unfolding wholeOf isShort
+  whole-long e = rw e
 
-      go : (s : Bool) → wholeFed wholeAs.Not b ≡ cond s (wholeFed (wholeIn (feedOf (fresh op) p b .answer)) (feedOf (fresh op) p b .buffers)) (wholeFed wholeAs.Not b)
-      go true = ap (λ (x : Feeding). wholeFed (wholeIn (x .answer)) (x .buffers)) f
-      go false = refl
+  -- behind a short header it is the feeding
+  whole-is : (at t n : ℕ) → shortHeader p ≡ Short at t n → (f : Feeding) → f ≡ feedOf (fresh op) p b → wholeBy f ≡ wholeOf op p b
+  unfolding wholeOf isShort
+  whole-is at t n e f isF = rw e (ap wholeBy isF)
+
+  pub whole-refused : (why : Refusal) → Refused why ≡ verdictOf (fresh op) (length p) (length (b .gathering)) (length (b .output)) → wholeFed wholeAs.Not b ≡ wholeOf op p b
+  unfolding wholeIn
+  whole-refused why e = go (shortHeader p) refl
+    where
+      go : (x : Header) → shortHeader p ≡ x → wholeFed wholeAs.Not b ≡ wholeOf op p b
+      go Long h = whole-long h
+      go (Short at t n) h = whole-is at t n h (feeding (fresh op) (fedAs.Refused why) b) (feed-refused (fresh op) p b why (sym e))
 
   pub whole-large : 65535 < op .limit → wholeFed wholeAs.Not b ≡ wholeOf op p b
   whole-large h = whole-refused unmakeableState (unmakeable (fresh op) (length p) (length (b .gathering)) (length (b .output)) (large-limit (fresh op) h))
 
-  pub whole-long : shortHeader p ≡ Long → wholeFed wholeAs.Not b ≡ wholeOf op p b
-  unfolding wholeOf standsWhole
-  whole-long e = rw e
+  module _ (at t n : ℕ) (e : shortHeader p ≡ Short at t n) (c : getD p 2 0 < 256) (v : verdictOf (fresh op) (length p) (length (b .gathering)) (length (b .output)) ≡ Accepted) where
+    planned : planValue op p at t n n ≡ planOf op p (InType noBytes)
+    planned = valued op p (Value at t n n) at t n n (planType op p noBytes) (short-reached op p at t n c e) refl ∙ at-type op p
 
-  module _ (at t n : ℕ) (e : shortHeader p ≡ Short at t n) where
-    pub whole-cut : length p < at + n → wholeFed wholeAs.Not b ≡ wholeOf op p b
-    unfolding wholeOf standsWhole
-    whole-cut h = rw (e, lt-leb (at + n) (length p) h)
+    whole-ends : n ≤ length p - at → (written : ℕ) (g o : List ℕ) → g ≡ stored (gathers op t n) at (at + n) 0 p (b .gathering) → Wrote (wrote (forwards op t) noBytes (at + n) p) (b .output) written o
+        → feeding (fresh op) (fedAs.Took (at + n) written (Capsule (reportOf op t n))) (lent g o) ≡ feedOf (fresh op) p b
+    whole-ends h written g o isG isO =
+        let z : n - n ≡ 0 = omega arith in
+        let plan : Plan = record { next = InType noBytes; consumed = at + n; ended = Capsule (reportOf op t n); forward = forwards op t; store = gathers op t n; at = at; place = n - n } in
+        takes (fresh op) p b noBytes plan written g o (no-bytes-held op t n n .0) (sym (value-ends op p at t n n h) ∙ planned) (rw z isG) isO ∙ feed-taken (fresh op) p b v
 
-    module _ (c : getD p 2 0 < 256) (v : verdictOf (fresh op) (length p) (length (b .gathering)) (length (b .output)) ≡ Accepted) (h : at + n ≤ length p) where
-      whole-feeds : (written : ℕ) (g o : List ℕ) → g ≡ stored (gathers op t n) at (at + n) 0 p (b .gathering) → Wrote (wrote (forwards op t) noBytes (at + n) p) (b .output) written o
-          → feeding (fresh op) (fedAs.Took (at + n) written (Capsule (reportOf op t n))) (lent g o) ≡ feedOf (fresh op) p b
-      whole-feeds written g o isG isO =
-          let z : n - n ≡ 0 = omega arith in
-          let plan : Plan = record { next = InType noBytes; consumed = at + n; ended = Capsule (reportOf op t n); forward = forwards op t; store = gathers op t n; at = at; place = n - n } in
-          let isPlan : plan ≡ planOf op p (InType noBytes) = sym (value-ends op p at t n n (omega arith)) ∙ valued op p (Value at t n n) at t n n (planType op p noBytes) (short-reached op p at t n c e) refl ∙ at-type op p in
-          takes (fresh op) p b noBytes plan written g o (no-bytes-held op t n n .0) isPlan (rw z isG) isO ∙ feed-taken (fresh op) p b v
+    whole-goes : length p - at < n → (written : ℕ) (g o : List ℕ) → g ≡ stored (gathers op t n) at (length p) 0 p (b .gathering) → Wrote (wrote (forwards op t) noBytes (length p) p) (b .output) written o
+        → feeding (inValue op t n (n - (length p - at))) (fedAs.Took (length p) written Nothing) (lent g o) ≡ feedOf (fresh op) p b
+    whole-goes h written g o isG isO =
+        let z : n - n ≡ 0 = omega arith in
+        let plan : Plan = record { next = InValue t n (n - (length p - at)); consumed = length p; ended = Nothing; forward = forwards op t; store = gathers op t n; at = at; place = n - n } in
+        takes (fresh op) p b noBytes plan written g o (no-bytes-held op t n n .0) (sym (value-goes op p at t n n h) ∙ planned) (rw z isG) isO ∙ feed-taken (fresh op) p b v
 
-      whole-is : (f : Feeding) → f ≡ feedOf (fresh op) p b → wholeFed (wholeIn (f .answer)) (f .buffers) ≡ wholeOf op p b
-      unfolding wholeOf standsWhole
-      whole-is f isF = rw (e, le-leb (at + n) (length p) h) (ap (λ (x : Feeding). wholeFed (wholeIn (x .answer)) (x .buffers)) isF)
-
-      pub whole-taken : (store forward : Bool) (report : Report) → store ≡ gathers op t n → forward ≡ forwards op t → report ≡ reportOf op t n
-          → (written : ℕ) (g o : List ℕ) → g ≡ stored store at (at + n) 0 p (b .gathering) → Wrote (wrote forward noBytes (at + n) p) (b .output) written o
+    module _ (store forward : Bool) (isStore : store ≡ gathers op t n) (isForward : forward ≡ forwards op t) (written : ℕ) (g o : List ℕ) where
+      pub whole-taken : n ≤ length p - at → (report : Report) → report ≡ reportOf op t n
+          → g ≡ stored store at (at + n) 0 p (b .gathering) → Wrote (wrote forward noBytes (at + n) p) (b .output) written o
           → wholeFed (wholeAs.Took (at + n) written report) (lent g o) ≡ wholeOf op p b
       unfolding wholeIn
-      whole-taken store forward report isStore isForward isReport written g o isG isO =
-          rw isReport (whole-is (feeding (fresh op) (fedAs.Took (at + n) written (Capsule (reportOf op t n))) (lent g o)) (whole-feeds written g o (rw isStore at isG) (rw isForward at isO)))
+      whole-taken h report isReport isG isO =
+          rw isReport (whole-is at t n e (feeding (fresh op) (fedAs.Took (at + n) written (Capsule (reportOf op t n))) (lent g o)) (whole-ends h written g o (rw isStore at isG) (rw isForward at isO)))
 
-      -- the other way about: what is answered is the feeding
-      pub whole-back : (consumed written : ℕ) (report : Report) (d : Lent) → wholeFed (wholeAs.Took consumed written report) d ≡ wholeOf op p b
-          → feeding (fresh op) (fedAs.Took consumed written (Capsule report)) d ≡ feedOf (fresh op) p b
-      whole-back consumed written report d q =
+      pub whole-cut : length p - at < n → g ≡ stored store at (length p) 0 p (b .gathering) → Wrote (wrote forward noBytes (length p) p) (b .output) written o
+          → wholeFed (wholeAs.Cut written t n (n - (length p - at))) (lent g o) ≡ wholeOf op p b
+      unfolding wholeIn
+      whole-cut h isG isO =
+          whole-is at t n e (feeding (inValue op t n (n - (length p - at))) (fedAs.Took (length p) written Nothing) (lent g o)) (whole-goes h written g o (rw isStore at isG) (rw isForward at isO))
+
+-- the other way about: what is answered is the feeding
+abbrev wholeAgain : Opening → ℕ → WholeFed → Feeding
+wholeAgain op size f = elim (f .answer) [
+  | wholeAs.Not ↦ feeding (fresh op) (fedAs.Refused unmakeableState) (f .buffers)
+  | wholeAs.Took consumed written report ↦ feeding (fresh op) (fedAs.Took consumed written (Capsule report)) (f .buffers)
+  | wholeAs.Cut written t n left ↦ feeding (inValue op t n left) (fedAs.Took size written Nothing) (f .buffers)
+]
+
+module _ (op : Opening) (p : List ℕ) (b : Lent) (c : getD p 2 0 < 256) where
+  -- either nothing was done, or what the feeding does
+  whole-by {ℓ} : {X : Type ℓ} → (wholeFed wholeAs.Not b ≡ wholeOf op p b → X)
+      → (wholeAgain op (length p) (wholeOf op p b) ≡ feedOf (fresh op) p b → (wholeOf op p b .answer ≡ wholeAs.Not → ⊥) → X)
+      → X
+  whole-by {X = X} nothing done = go (shortHeader p) refl (verdictOf (fresh op) (length p) (length (b .gathering)) (length (b .output))) refl
+    where
+      go : (x : Header) → shortHeader p ≡ x → (v : Verdict) → verdictOf (fresh op) (length p) (length (b .gathering)) (length (b .output)) ≡ v → X
+      go Long e v f = nothing (whole-long op p b e)
+      go (Short at t n) e (Refused why) f = nothing (whole-refused op p b why (sym f))
+      go (Short at t n) e Accepted f =
+          split n (length p - at)
+          (λ h.
           let w = wrote (forwards op t) noBytes (at + n) p in
           let g = stored (gathers op t n) at (at + n) 0 p (b .gathering) in
           let o = sets (b .output) 0 w in
-          let same = q ∙ sym (whole-taken (gathers op t n) (forwards op t) (reportOf op t n) refl refl refl (length w) g o refl (record { counted = refl; placed = refl })) in
-          ap (λ (x : WholeFed). feeding (fresh op) (capsuleTook (x .answer)) (x .buffers)) same ∙ whole-feeds (length w) g o refl (record { counted = refl; placed = refl })
-
-  not-taken {ℓ} : {X : Type ℓ} {consumed written : ℕ} {report : Report} {d : Lent} → wholeFed (wholeAs.Took consumed written report) d ≡ wholeOf op p b → wholeFed wholeAs.Not b ≡ wholeOf op p b → X
-  not-taken q r = zero-one (cc (ap (λ (x : WholeFed). x .answer) (q ∙ sym r)))
-
-  -- what the short way took is the feeding of a reader between two capsules, and leaves it there
-  pub whole-fed : getD p 2 0 < 256 → (consumed written : ℕ) (report : Report) (d : Lent) → wholeFed (wholeAs.Took consumed written report) d ≡ wholeOf op p b
-      → feeding (fresh op) (fedAs.Took consumed written (Capsule report)) d ≡ feedOf (fresh op) p b
-  whole-fed c consumed written report d q = by-header (shortHeader p) refl (verdictOf (fresh op) (length p) (length (b .gathering)) (length (b .output))) refl
-    where
-      by-header : (x : Header) → shortHeader p ≡ x → (v : Verdict) → verdictOf (fresh op) (length p) (length (b .gathering)) (length (b .output)) ≡ v
-          → feeding (fresh op) (fedAs.Took consumed written (Capsule report)) d ≡ feedOf (fresh op) p b
-      by-header Long e v f = not-taken q (whole-long e)
-      by-header (Short at t n) e (Refused why) f = not-taken q (whole-refused why (sym f))
-      by-header (Short at t n) e Accepted f = split (at + n) (length p) (λ h. whole-back at t n e c f h consumed written report d q) (λ h. not-taken q (whole-cut at t n e h))
-
-  -- where it took nothing it changed nothing
-  pub whole-not : getD p 2 0 < 256 → (d : Lent) → wholeFed wholeAs.Not d ≡ wholeOf op p b → d ≡ b
-  whole-not c d q = by-header (shortHeader p) refl (verdictOf (fresh op) (length p) (length (b .gathering)) (length (b .output))) refl
-    where
-      same : wholeFed wholeAs.Not b ≡ wholeOf op p b → d ≡ b
-      same r = ap (λ (x : WholeFed). x .buffers) (q ∙ sym r)
-
-      by-header : (x : Header) → shortHeader p ≡ x → (v : Verdict) → verdictOf (fresh op) (length p) (length (b .gathering)) (length (b .output)) ≡ v → d ≡ b
-      by-header Long e v f = same (whole-long e)
-      by-header (Short at t n) e (Refused why) f = same (whole-refused why (sym f))
-      by-header (Short at t n) e Accepted f =
-          split (at + n) (length p)
+          let taken = whole-taken op p b at t n e c f (gathers op t n) (forwards op t) refl refl (length w) g o h (reportOf op t n) refl refl (record { counted = refl; placed = refl }) in
+          done (ap (wholeAgain op (length p)) (sym taken) ∙ whole-ends op p b at t n e c f h (length w) g o refl (record { counted = refl; placed = refl }))
+          (λ z. zero-one (cc (ap (λ (x : WholeFed). x .answer) taken ∙ z))))
           (λ h.
-          let w = wrote (forwards op t) noBytes (at + n) p in
-          let taken = whole-taken at t n e c f h (gathers op t n) (forwards op t) (reportOf op t n) refl refl refl (length w) (stored (gathers op t n) at (at + n) 0 p (b .gathering)) (sets (b .output) 0 w) refl (record { counted = refl; placed = refl }) in
-          zero-one (cc (ap (λ (x : WholeFed). x .answer) (q ∙ sym taken))))
-          (λ h. same (whole-cut at t n e h))
+          let w = wrote (forwards op t) noBytes (length p) p in
+          let g = stored (gathers op t n) at (length p) 0 p (b .gathering) in
+          let o = sets (b .output) 0 w in
+          let taken = whole-cut op p b at t n e c f (gathers op t n) (forwards op t) refl refl (length w) g o h refl (record { counted = refl; placed = refl }) in
+          done (ap (wholeAgain op (length p)) (sym taken) ∙ whole-goes op p b at t n e c f h (length w) g o refl (record { counted = refl; placed = refl }))
+          (λ z. zero-one (cc (ap (λ (x : WholeFed). x .answer) taken ∙ z))))
 
--- ---- a piece within a value
+  pub whole-not : (d : Lent) → wholeFed wholeAs.Not d ≡ wholeOf op p b → d ≡ b
+  whole-not d q = whole-by (λ n. ap (λ (x : WholeFed). x .buffers) (q ∙ sym n)) (λ a x. absurd (x (sym (ap (λ (y : WholeFed). y .answer) q))))
+
+  pub whole-fed : (consumed written : ℕ) (report : Report) (d : Lent) → wholeFed (wholeAs.Took consumed written report) d ≡ wholeOf op p b
+      → feeding (fresh op) (fedAs.Took consumed written (Capsule report)) d ≡ feedOf (fresh op) p b
+  whole-fed consumed written report d q =
+      whole-by (λ n. zero-one (cc (ap (λ (x : WholeFed). x .answer) (q ∙ sym n)))) (λ a x. ap (wholeAgain op (length p)) q ∙ a)
+
+  pub whole-cut-fed : (written t n left : ℕ) (d : Lent) → wholeFed (wholeAs.Cut written t n left) d ≡ wholeOf op p b
+      → feeding (inValue op t n left) (fedAs.Took (length p) written Nothing) d ≡ feedOf (fresh op) p b
+  whole-cut-fed written t n left d q =
+      whole-by (λ z. zero-one (cc (ap (λ (x : WholeFed). x .answer) (q ∙ sym z)))) (λ a x. ap (wholeAgain op (length p)) q ∙ a)
+
+-- ---- within a value
 
 module _ (op : Opening) (t n left : ℕ) (p : List ℕ) (b : Lent) where
-  pub inside-refused : (why : Refusal) → Refused why ≡ verdictOf (inValue op t n left) (length p) (length (b .gathering)) (length (b .output)) → insideFed insideAs.Not b ≡ insideOf op t n left p b
-  unfolding insideOf insideIn
-  inside-refused why e = go (ltb (length p) left)
-    where
-      f : feeding (inValue op t n left) (fedAs.Refused why) b ≡ feedOf (inValue op t n left) p b
-      f = feed-refused (inValue op t n left) p b why (sym e)
+  inside-is : (f : Feeding) → f ≡ feedOf (inValue op t n left) p b → insideBy f ≡ insideOf op t n left p b
+  unfolding insideOf
+  inside-is f isF = ap insideBy isF
 
-      go : (s : Bool) → insideFed insideAs.Not b ≡ cond s (insideFed (insideIn (feedOf (inValue op t n left) p b .answer)) (feedOf (inValue op t n left) p b .buffers)) (insideFed insideAs.Not b)
-      go true = ap (λ (x : Feeding). insideFed (insideIn (x .answer)) (x .buffers)) f
-      go false = refl
+  pub inside-refused : (why : Refusal) → Refused why ≡ verdictOf (inValue op t n left) (length p) (length (b .gathering)) (length (b .output)) → insideFed insideAs.Not b ≡ insideOf op t n left p b
+  unfolding insideIn
+  inside-refused why e = inside-is (feeding (inValue op t n left) (fedAs.Refused why) b) (feed-refused (inValue op t n left) p b why (sym e))
 
   pub inside-unmade : isMakeable (inValue op t n left) ≡ false → insideFed insideAs.Not b ≡ insideOf op t n left p b
   inside-unmade m = inside-refused unmakeableState (unmakeable (inValue op t n left) (length p) (length (b .gathering)) (length (b .output)) m)
 
-  pub inside-ends : left ≤ length p → insideFed insideAs.Not b ≡ insideOf op t n left p b
-  unfolding insideOf
-  inside-ends h = rw (le-ltb (length p) left h)
+  module _ (v : verdictOf (inValue op t n left) (length p) (length (b .gathering)) (length (b .output)) ≡ Accepted) where
+    inside-ends : left ≤ length p → (written : ℕ) (g o : List ℕ) → g ≡ stored (gathers op t n) 0 left (n - left) p (b .gathering) → Wrote (wrote (forwards op t) noBytes left p) (b .output) written o
+        → feeding (fresh op) (fedAs.Took left written (Capsule (reportOf op t n))) (lent g o) ≡ feedOf (inValue op t n left) p b
+    inside-ends h written g o isG isO =
+        let z : 0 + left ≡ left = omega arith in
+        let plan : Plan = record { next = InType noBytes; consumed = left; ended = Capsule (reportOf op t n); forward = forwards op t; store = gathers op t n; at = 0; place = n - left } in
+        let isPlan : plan ≡ planOf op p (InValue t n left) = sym (rw z at (value-ends op p 0 t n left (omega arith))) ∙ at-value op p t n left in
+        takes (inValue op t n left) p b noBytes plan written g o (no-bytes-held op t n left .1) isPlan isG isO ∙ feed-taken (inValue op t n left) p b v
 
-  module _ (v : verdictOf (inValue op t n left) (length p) (length (b .gathering)) (length (b .output)) ≡ Accepted) (h : length p < left) where
-    inside-feeds : (written : ℕ) (g o : List ℕ) → g ≡ stored (gathers op t n) 0 (length p) (n - left) p (b .gathering) → Wrote (wrote (forwards op t) noBytes (length p) p) (b .output) written o
+    inside-goes : length p < left → (written : ℕ) (g o : List ℕ) → g ≡ stored (gathers op t n) 0 (length p) (n - left) p (b .gathering) → Wrote (wrote (forwards op t) noBytes (length p) p) (b .output) written o
         → feeding (inValue op t n (left - length p)) (fedAs.Took (length p) written Nothing) (lent g o) ≡ feedOf (inValue op t n left) p b
-    inside-feeds written g o isG isO =
-        let r = inValue op t n left in
+    inside-goes h written g o isG isO =
         let z : length p - 0 ≡ length p = omega arith in
         let plan : Plan = record { next = InValue t n (left - length p); consumed = length p; ended = Nothing; forward = forwards op t; store = gathers op t n; at = 0; place = n - left } in
         let isPlan : plan ≡ planOf op p (InValue t n left) = sym (rw z at (value-goes op p 0 t n left (omega arith))) ∙ at-value op p t n left in
-        takes r p b noBytes plan written g o (no-bytes-held op t n left .1) isPlan isG isO ∙ feed-taken r p b v
+        takes (inValue op t n left) p b noBytes plan written g o (no-bytes-held op t n left .1) isPlan isG isO ∙ feed-taken (inValue op t n left) p b v
 
-    pub inside-taken : (store forward : Bool) → store ≡ gathers op t n → forward ≡ forwards op t
-        → (written : ℕ) (g o : List ℕ) → g ≡ stored store 0 (length p) (n - left) p (b .gathering) → Wrote (wrote forward noBytes (length p) p) (b .output) written o
-        → insideFed (insideAs.Took written) (lent g o) ≡ insideOf op t n left p b
-    unfolding insideOf insideIn
-    inside-taken store forward isStore isForward written g o isG isO =
-        rw (lt-ltb (length p) left h) (ap (λ (x : Feeding). insideFed (insideIn (x .answer)) (x .buffers)) (inside-feeds written g o (rw isStore at isG) (rw isForward at isO)))
+    module _ (store forward : Bool) (isStore : store ≡ gathers op t n) (isForward : forward ≡ forwards op t) (written : ℕ) (g o : List ℕ) where
+      pub inside-ended : left ≤ length p → (report : Report) → report ≡ reportOf op t n
+          → g ≡ stored store 0 left (n - left) p (b .gathering) → Wrote (wrote forward noBytes left p) (b .output) written o
+          → insideFed (insideAs.Ended left written report) (lent g o) ≡ insideOf op t n left p b
+      unfolding insideIn
+      inside-ended h report isReport isG isO =
+          rw isReport (inside-is (feeding (fresh op) (fedAs.Took left written (Capsule (reportOf op t n))) (lent g o)) (inside-ends h written g o (rw isStore at isG) (rw isForward at isO)))
 
-    pub inside-back : (written : ℕ) (d : Lent) → insideFed (insideAs.Took written) d ≡ insideOf op t n left p b
-        → feeding (inValue op t n (left - length p)) (fedAs.Took (length p) written Nothing) d ≡ feedOf (inValue op t n left) p b
-    inside-back written d q =
-        let w = wrote (forwards op t) noBytes (length p) p in
-        let g = stored (gathers op t n) 0 (length p) (n - left) p (b .gathering) in
-        let o = sets (b .output) 0 w in
-        let same = q ∙ sym (inside-taken (gathers op t n) (forwards op t) refl refl (length w) g o refl (record { counted = refl; placed = refl })) in
-        ap (λ (x : InsideFed). feeding (inValue op t n (left - length p)) (pieceTook (length p) (x .answer)) (x .buffers)) same ∙ inside-feeds (length w) g o refl (record { counted = refl; placed = refl })
+      pub inside-taken : length p < left → g ≡ stored store 0 (length p) (n - left) p (b .gathering) → Wrote (wrote forward noBytes (length p) p) (b .output) written o
+          → insideFed (insideAs.Took written) (lent g o) ≡ insideOf op t n left p b
+      unfolding insideIn
+      inside-taken h isG isO =
+          inside-is (feeding (inValue op t n (left - length p)) (fedAs.Took (length p) written Nothing) (lent g o)) (inside-goes h written g o (rw isStore at isG) (rw isForward at isO))
 
-  not-inside {ℓ} : {X : Type ℓ} {written : ℕ} {d : Lent} → insideFed (insideAs.Took written) d ≡ insideOf op t n left p b → insideFed insideAs.Not b ≡ insideOf op t n left p b → X
-  not-inside q r = zero-one (cc (ap (λ (x : InsideFed). x .answer) (q ∙ sym r)))
+abbrev insideAgain : Opening → ℕ → ℕ → ℕ → ℕ → InsideFed → Feeding
+insideAgain op t n left size f = elim (f .answer) [
+  | insideAs.Not ↦ feeding (fresh op) (fedAs.Refused unmakeableState) (f .buffers)
+  | insideAs.Took written ↦ feeding (inValue op t n (left - size)) (fedAs.Took size written Nothing) (f .buffers)
+  | insideAs.Ended consumed written report ↦ feeding (fresh op) (fedAs.Took consumed written (Capsule report)) (f .buffers)
+]
 
-  -- what the short way took is the feeding of a reader in the value, and leaves it there
-  pub inside-fed : (written : ℕ) (d : Lent) → insideFed (insideAs.Took written) d ≡ insideOf op t n left p b
-      → (length p ≤ left) × (feeding (inValue op t n (left - length p)) (fedAs.Took (length p) written Nothing) d ≡ feedOf (inValue op t n left) p b)
-  inside-fed written d q = by-verdict (verdictOf (inValue op t n left) (length p) (length (b .gathering)) (length (b .output))) refl
+module _ (op : Opening) (t n left : ℕ) (p : List ℕ) (b : Lent) where
+  inside-by {ℓ} : {X : Type ℓ} → (insideFed insideAs.Not b ≡ insideOf op t n left p b → X)
+      → (insideAgain op t n left (length p) (insideOf op t n left p b) ≡ feedOf (inValue op t n left) p b → (insideOf op t n left p b .answer ≡ insideAs.Not → ⊥)
+      → ((written : ℕ) → insideOf op t n left p b .answer ≡ insideAs.Took written → length p ≤ left) → X)
+      → X
+  inside-by {X = X} nothing done = go (verdictOf (inValue op t n left) (length p) (length (b .gathering)) (length (b .output))) refl
     where
-      by-verdict : (v : Verdict) → verdictOf (inValue op t n left) (length p) (length (b .gathering)) (length (b .output)) ≡ v
-          → (length p ≤ left) × (feeding (inValue op t n (left - length p)) (fedAs.Took (length p) written Nothing) d ≡ feedOf (inValue op t n left) p b)
-      by-verdict (Refused why) f = not-inside q (inside-refused why (sym f))
-      by-verdict Accepted f = split left (length p) (λ h. not-inside q (inside-ends h)) (λ h. (omega arith, inside-back f h written d q))
-
-  pub inside-not : (d : Lent) → insideFed insideAs.Not d ≡ insideOf op t n left p b → d ≡ b
-  inside-not d q = by-verdict (verdictOf (inValue op t n left) (length p) (length (b .gathering)) (length (b .output))) refl
-    where
-      same : insideFed insideAs.Not b ≡ insideOf op t n left p b → d ≡ b
-      same r = ap (λ (x : InsideFed). x .buffers) (q ∙ sym r)
-
-      by-verdict : (v : Verdict) → verdictOf (inValue op t n left) (length p) (length (b .gathering)) (length (b .output)) ≡ v → d ≡ b
-      by-verdict (Refused why) f = same (inside-refused why (sym f))
-      by-verdict Accepted f =
-          split left (length p) (λ h. same (inside-ends h))
+      go : (v : Verdict) → verdictOf (inValue op t n left) (length p) (length (b .gathering)) (length (b .output)) ≡ v → X
+      go (Refused why) f = nothing (inside-refused op t n left p b why (sym f))
+      go Accepted f =
+          split left (length p)
+          (λ h.
+          let w = wrote (forwards op t) noBytes left p in
+          let g = stored (gathers op t n) 0 left (n - left) p (b .gathering) in
+          let o = sets (b .output) 0 w in
+          let taken = inside-ended op t n left p b f (gathers op t n) (forwards op t) refl refl (length w) g o h (reportOf op t n) refl refl (record { counted = refl; placed = refl }) in
+          done (ap (insideAgain op t n left (length p)) (sym taken) ∙ inside-ends op t n left p b f h (length w) g o refl (record { counted = refl; placed = refl }))
+          (λ z. zero-one (cc (ap (λ (x : InsideFed). x .answer) taken ∙ z)))
+          (λ written z. zero-one (cc (ap (λ (x : InsideFed). x .answer) taken ∙ z))))
           (λ h.
           let w = wrote (forwards op t) noBytes (length p) p in
-          let taken = inside-taken f h (gathers op t n) (forwards op t) refl refl (length w) (stored (gathers op t n) 0 (length p) (n - left) p (b .gathering)) (sets (b .output) 0 w) refl (record { counted = refl; placed = refl }) in
-          zero-one (cc (ap (λ (x : InsideFed). x .answer) (q ∙ sym taken))))
+          let g = stored (gathers op t n) 0 (length p) (n - left) p (b .gathering) in
+          let o = sets (b .output) 0 w in
+          let taken = inside-taken op t n left p b f (gathers op t n) (forwards op t) refl refl (length w) g o h refl (record { counted = refl; placed = refl }) in
+          done (ap (insideAgain op t n left (length p)) (sym taken) ∙ inside-goes op t n left p b f h (length w) g o refl (record { counted = refl; placed = refl }))
+          (λ z. zero-one (cc (ap (λ (x : InsideFed). x .answer) taken ∙ z)))
+          (λ written z. omega arith))
+
+  pub inside-not : (d : Lent) → insideFed insideAs.Not d ≡ insideOf op t n left p b → d ≡ b
+  inside-not d q = inside-by (λ z. ap (λ (x : InsideFed). x .buffers) (q ∙ sym z)) (λ a x y. absurd (x (sym (ap (λ (k : InsideFed). k .answer) q))))
+
+  pub inside-fed : (written : ℕ) (d : Lent) → insideFed (insideAs.Took written) d ≡ insideOf op t n left p b
+      → (length p ≤ left) × (feeding (inValue op t n (left - length p)) (fedAs.Took (length p) written Nothing) d ≡ feedOf (inValue op t n left) p b)
+  inside-fed written d q =
+      inside-by (λ z. zero-one (cc (ap (λ (x : InsideFed). x .answer) (q ∙ sym z))))
+      (λ a x y. (y written (sym (ap (λ (k : InsideFed). k .answer) q)), ap (insideAgain op t n left (length p)) q ∙ a))
+
+  pub inside-ended-fed : (consumed written : ℕ) (report : Report) (d : Lent) → insideFed (insideAs.Ended consumed written report) d ≡ insideOf op t n left p b
+      → feeding (fresh op) (fedAs.Took consumed written (Capsule report)) d ≡ feedOf (inValue op t n left) p b
+  inside-ended-fed consumed written report d q =
+      inside-by (λ z. zero-one (cc (ap (λ (x : InsideFed). x .answer) (q ∙ sym z)))) (λ a x y. ap (insideAgain op t n left (length p)) q ∙ a)

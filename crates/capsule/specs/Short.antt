@@ -1,13 +1,14 @@
 -- The short ways of a feeding: what they answer, by the feeding itself.
 use Prim.Native.Nat.{ℕ, _+_, _-_, _*_}
-use mathlib.Core.Bool.{Bool, false, cond}
+use mathlib.Core.Bool.{Bool, true, false, cond}
 use mathlib.Core.List.{List}
 use lib.ListN.{length, getD}
 use lib.Dec.{leb, ltb, eqb}
 use Rattle.capsule.specs.declared.opening.Opening.{Opening}
 use Rattle.capsule.specs.declared.plan.Header.{Header}
 use Rattle.capsule.specs.declared.plan.Header.the-variants.{Long, Short}
-use Rattle.capsule.specs.declared.reader.Phase.the-variants.{InValue}
+use Rattle.capsule.specs.declared.reader.Phase.{Phase}
+use Rattle.capsule.specs.declared.reader.Phase.the-variants.{InType, InLength, InValue}
 use Rattle.capsule.specs.declared.reader.Reader.{Reader}
 use Rattle.capsule.specs.declared.reader.Ended.the-variants.{Nothing, Capsule}
 use Rattle.capsule.specs.declared.reader.FeedAnswer.{FeedAnswer}
@@ -32,10 +33,9 @@ shortHeader p =
 unfoldable pub firstHeader : ℕ → List ℕ → Header
 firstHeader have p = cond (eqb have 0) (shortHeader p) Long
 
--- the value stands in the piece, too
-unfoldable pub standsWhole : List ℕ → Header → Bool
-standsWhole p Long = false
-standsWhole p (Short at t n) = leb (at + n) (length p)
+unfoldable pub isShort : Header → Bool
+isShort Long = false
+isShort (Short at t n) = true
 
 pub record WholeFed : Type 0 where
   pub answer : Whole
@@ -44,16 +44,20 @@ pub record WholeFed : Type 0 where
 abbrev pub wholeFed : Whole → Lent → WholeFed
 wholeFed a b = record { answer = a; buffers = b }
 
-unfoldable pub wholeIn : FeedAnswer → Whole
-wholeIn (fedAs.Refused r) = wholeAs.Not
-wholeIn (fedAs.Took consumed written Nothing) = wholeAs.Not
-wholeIn (fedAs.Took consumed written (Capsule r)) = wholeAs.Took consumed written r
+-- a capsule ended, or the piece ended in its value
+unfoldable pub wholeIn : FeedAnswer → Phase → Whole
+wholeIn (fedAs.Refused r) phase = wholeAs.Not
+wholeIn (fedAs.Took consumed written (Capsule r)) phase = wholeAs.Took consumed written r
+wholeIn (fedAs.Took consumed written Nothing) (InType part) = wholeAs.Not
+wholeIn (fedAs.Took consumed written Nothing) (InLength t part) = wholeAs.Not
+wholeIn (fedAs.Took consumed written Nothing) (InValue t n left) = wholeAs.Cut written t n left
 
--- the feeding of a reader between two capsules, where a short header and its value stand in the piece
+abbrev pub wholeBy : Feeding → WholeFed
+wholeBy f = wholeFed (wholeIn (f .answer) (f .reader .phase)) (f .buffers)
+
+-- the feeding of a reader between two capsules, where a short header stands at the front of the piece
 unfoldable pub wholeOf : Opening → List ℕ → Lent → WholeFed
-wholeOf op p b =
-    let f = feedOf (fresh op) p b in
-    cond (standsWhole p (shortHeader p)) (wholeFed (wholeIn (f .answer)) (f .buffers)) (wholeFed wholeAs.Not b)
+wholeOf op p b = cond (isShort (shortHeader p)) (wholeBy (feedOf (fresh op) p b)) (wholeFed wholeAs.Not b)
 
 -- ---- a piece within a value
 
@@ -69,10 +73,12 @@ insideFed a b = record { answer = a; buffers = b }
 
 unfoldable pub insideIn : FeedAnswer → Inside
 insideIn (fedAs.Refused r) = insideAs.Not
-insideIn (fedAs.Took consumed written e) = insideAs.Took written
+insideIn (fedAs.Took consumed written Nothing) = insideAs.Took written
+insideIn (fedAs.Took consumed written (Capsule r)) = insideAs.Ended consumed written r
 
--- the feeding of a reader in a value, where more of it is to come than the piece has
+abbrev pub insideBy : Feeding → InsideFed
+insideBy f = insideFed (insideIn (f .answer)) (f .buffers)
+
+-- the feeding of a reader in a value
 unfoldable pub insideOf : Opening → ℕ → ℕ → ℕ → List ℕ → Lent → InsideFed
-insideOf op t n left p b =
-    let f = feedOf (inValue op t n left) p b in
-    cond (ltb (length p) left) (insideFed (insideIn (f .answer)) (f .buffers)) (insideFed insideAs.Not b)
+insideOf op t n left p b = insideBy (feedOf (inValue op t n left) p b)

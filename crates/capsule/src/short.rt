@@ -26,13 +26,28 @@ pub enum Whole {
         written: usize,
         report: Report,
     },
+    // all of the piece was consumed, and `left` bytes of the value are to come
+    Cut {
+        written: usize,
+        ctype: u64,
+        size: u64,
+        left: u64,
+    },
 }
 
 pub enum Inside {
     // nothing was changed
     Not,
     // all of the piece was consumed
-    Took { written: usize },
+    Took {
+        written: usize,
+    },
+    // the value has ended
+    Ended {
+        consumed: usize,
+        written: usize,
+        report: Report,
+    },
 }
 
 impl Opening {
@@ -48,12 +63,21 @@ impl Opening {
         requires { ⌜ (verdictOf (fresh self) (length (now piece)) (length (now gathering)) (length (now output)) ≡ Accepted) × (shortHeader (now piece) ≡ Short at ctype size) × (at ≤ length (now piece)) ⌝ }
         ensures { λ r. ⌜ wholeFed r (lent (now (gathering .exit)) (now (output .exit))) ≡ wholeOf self (now (piece .entry)) (lent (now (gathering .entry)) (now (output .entry))) ⌝ }
     {
-        if size > ((piece.len() - at) as u64) {
-            return Whole::Not;
-        }
-        let end = at + (size as usize);
         let store = self.gathers(ctype, size);
         let forward = self.forwards(ctype);
+        let room = (piece.len() - at) as u64;
+        if size > room {
+            let n = piece.len();
+            store_bytes(piece, gathering, store, at, n, 0);
+            let cut = forward_bytes(piece, output, forward, Partial::EMPTY, n);
+            return Whole::Cut {
+                written: cut,
+                ctype: ctype,
+                size: size,
+                left: size - room,
+            };
+        }
+        let end = at + (size as usize);
         store_bytes(piece, gathering, store, at, end, 0);
         let written = forward_bytes(piece, output, forward, Partial::EMPTY, end);
         Whole::Took {
@@ -101,15 +125,22 @@ impl Opening {
             return Inside::Not;
         }
         let n = piece.len();
-        if left <= (n as u64) {
-            return Inside::Not;
-        }
         let verdict = self.verdict(n, gathering.len(), output.len());
         match verdict {
             Verdict::Refused(_) => Inside::Not,
             Verdict::Accepted => {
                 let store = self.gathers(ctype, size);
                 let forward = self.forwards(ctype);
+                if left <= (n as u64) {
+                    let end = left as usize;
+                    store_bytes(piece, gathering, store, 0, end, size - left);
+                    let last = forward_bytes(piece, output, forward, Partial::EMPTY, end);
+                    return Inside::Ended {
+                        consumed: end,
+                        written: last,
+                        report: self.report(ctype, size),
+                    };
+                }
                 store_bytes(piece, gathering, store, 0, n, size - left);
                 let written = forward_bytes(piece, output, forward, Partial::EMPTY, n);
                 Inside::Took { written: written }

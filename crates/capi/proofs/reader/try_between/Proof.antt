@@ -1,7 +1,7 @@
 use native.Mathlib.Omega.{arith}
 use mathlib.Core.Path.{sym, ap, _∙_}
 use lib.ListN.{length}
-use Rattle.capi.proofs.ShortWords.{between-not, between-fed}
+use Rattle.capi.proofs.ShortWords.{between-not, between-fed, between-cut}
 use borrow.Author.Needs.{needs}
 use Rattle.capi.proofs.reader.try_between.Statement.{statement}
 use Rattle.capi.proofs.reader.try_between.Tie as tie
@@ -24,6 +24,27 @@ copied-requires c κs = search needs
 fed-report-requires : tie.Need-fed-report-requires
 fed-report-requires c κs = search needs
 
+enum-known-written : tie.Need-enum-known-written
+enum-known-written c = search needs
+
+copied-requires-2 : tie.Need-copied-requires-2
+copied-requires-2 c κs = search needs
+
+element-write-words : tie.Need-element-write-words
+element-write-words c = search needs
+
+element-write-words-2 : tie.Need-element-write-words-2
+element-write-words-2 c = search needs
+
+element-write-words-3 : tie.Need-element-write-words-3
+element-write-words-3 c = search needs
+
+element-write-words-4 : tie.Need-element-write-words-4
+element-write-words-4 c = search needs
+
+fed-took-requires : tie.Need-fed-took-requires
+fed-took-requires c κs = search needs
+
 same-length : tie.Need-same-length
 same-length c = search needs
 
@@ -43,6 +64,16 @@ returns-2 : tie.Need-returns-2
 returns-2 c =
     between-fed _ _ _ _ (c .before .before .before .before .before .before .before .before .before .before .before .before .before .opening-in .ensures) (c .before .before .before .before .before .before .before .before .before .before .before .before .before .before .before .before .before .before .pre) (c .before .before .before .before .before .before .before .before .before .before .before .before .before .before .before .before .before .shared-slice-known .given 2 .fits) (sym (ap length (c .before .copied .ensures)) ∙ omega (arith, c .before .copied .ok)) _ _ _ _ (rw (c .before .before .before .before .consumed .given .1) at (c .before .before .before .before .before .before .before .before .before .before .feed-whole .ensures)) _ (c .fed-report .ensures)
 
+same-length-5 : tie.Need-same-length-5
+same-length-5 c = search needs
+
+same-length-6 : tie.Need-same-length-6
+same-length-6 c = search needs
+
+returns-3 : tie.Need-returns-3
+returns-3 c =
+    between-cut _ _ _ _ (c .before .before .before .before .before .before .before .before .before .before .before .before .before .opening-in .ensures) (c .before .before .before .before .before .before .before .before .before .before .before .before .before .before .before .before .before .before .pre) (c .before .before .before .before .before .before .before .before .before .before .before .before .before .before .before .before .before .shared-slice-known .given 2 .fits) (sym (ap length (c .before .copied2 .ensures)) ∙ omega (arith, c .before .copied2 .ok)) _ _ _ _ _ (rw (c .before .before .before .before .written .given .1) at (c .before .before .before .before .before .before .before .before .before .before .feed-whole .ensures)) _ (c .fed-took .ensures)
+
 pub try-between-spec : {M : Type 1} → statement M
 try-between-spec =
     tie.close
@@ -53,9 +84,19 @@ try-between-spec =
     enum-known-consumed
     copied-requires
     fed-report-requires
+    enum-known-written
+    copied-requires-2
+    element-write-words
+    element-write-words-2
+    element-write-words-3
+    element-write-words-4
+    fed-took-requires
     same-length
     same-length-2
     returns
     same-length-3
     same-length-4
-    returns-2)
+    returns-2
+    same-length-5
+    same-length-6
+    returns-3)
