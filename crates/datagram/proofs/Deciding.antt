@@ -1,14 +1,14 @@
 -- Judging and sending, as the code decides them over two rows. Assumes nothing.
-use mathlib.Core.Path.{_≡_, refl, sym, ap, _∙_}
-use Prim.Native.Nat.{ℕ, _-_, _^_, _≤_, _<_}
+use mathlib.Core.Path.{_≡_, refl, sym, ap, subst, _∙_}
+use Prim.Native.Nat.{ℕ, _-_, _^_, _≤_}
 use native.Mathlib.Omega.{arith}
-use mathlib.Core.Bool.{Bool, true, false, cond, not, _||_}
+use mathlib.Core.Bool.{Bool, true, false, cond}
 use mathlib.Core.List.{List, []}
 use lib.ListN.{length, take, drop, getD, length-drop}
 use lib.Seq.{take-all}
-use lib.Dec.{leb, ltb, eqb}
-use borrow.Author.Tests.{le-leb, lt-leb, lt-ltb, le-ltb}
-use Rattle.refusals.specs.Numbers.{limitTooLarge, numberTooLarge, badTable, notARequestStream, notInTable, framesNotAgreed, sendSideClosed, noSemantics}
+use lib.Dec.{leb, ltb}
+use borrow.Author.Tests.{le-leb}
+use Rattle.refusals.specs.Numbers.{limitTooLarge, numberTooLarge, badTable, notARequestStream, framesNotAgreed, sendSideClosed, noSemantics}
 use Rattle.wire.specs.declared.varint.Varint.{Varint}
 use Rattle.wire.specs.declared.varint.Varint.the-variants.{Incomplete, Whole}
 use Rattle.wire.specs.declared.units.StreamId.{StreamId}
@@ -22,128 +22,72 @@ use Rattle.streams.specs.declared.record.StreamRecord.{StreamRecord}
 use Rattle.streams.specs.declared.table.Found.{Found}
 use Rattle.streams.specs.declared.table.Found.the-variants.{Nothing, At}
 use Rattle.streams.specs.Records.{blank, holds}
-use Rattle.streams.specs.Tables.{Table, isBad, find}
-use Rattle.streams.specs.Rows.{tableOf, isBadRows, rowAt}
+use Rattle.streams.specs.Tables.{Table, isBad, find, sought, placeOf, recordFound}
+use Rattle.streams.specs.Rows.{tableOf, isBadRows}
 use Rattle.streams.proofs.Places.{find-first, first-at}
-use Rattle.streams.proofs.Reading.{length-table, row-at}
+use Rattle.streams.proofs.Decisions.{if-request, sought-found, rows-by}
 use Rattle.datagram.specs.declared.judge.Judged.{Judged}
 use Rattle.datagram.specs.declared.judge.Judged.the-variants as judged
 use Rattle.datagram.specs.declared.write.Sending.{Sending}
 use Rattle.datagram.specs.declared.write.Sending.the-variants as sending
-use Rattle.datagram.specs.Judging.{judgedRecord, judgedFound, judgedQuarter, judgedRead, judgedBy, judgedOf, judgedRowsBy, judgedRows, behind, isDelivered, ifDelivered}
-use Rattle.datagram.specs.Sending.{sendingRecord, sendingQuarter, sendingOf, sendingRows, frameWritten, frameFor}
-use Rattle.datagram.specs.Claims.{DeliveredRight}
+use Rattle.datagram.specs.Judging.{judgedRecord, judgedFound, ifWithin, judgedQuarter, judgedRead, ifAccepted, judgedBy, askedIn, judgedStands, judgedReadFrom, judgedFrom, judgedOf, judgedRowsBy, judgedRows, behind, isDelivered, ifDelivered}
+use Rattle.datagram.specs.Sending.{sendingRecord, sendingQuarter, sendingOf, sendingStands, sendingFrom, sendingRows, frameWritten, frameFor}
+use Rattle.datagram.specs.Claims.{JudgedFrom, SendingFrom, DeliveredRight}
 
 zero-one {ℓ} : {X : Type ℓ} → _≡_ {A = ℕ} 0 1 → X
 zero-one e = absurd (let n : ⊥ = omega arith in n)
 
--- ---- two rows
+-- ---- by what was found
 
-module _ (qs ms : List ℕ) where
+module _ (t : Table) where
+  stands-found : (limit rest : ℕ) (f : Found) → judgedStands f (recordFound t f) limit rest ≡ judgedFound t f limit rest
+  unfolding judgedStands judgedFound placeOf
+  stands-found limit rest Nothing = refl
+  stands-found limit rest (At i) = refl
+
+  sends-found : (q : Quarter) (s : Bool) (f : Found) → find (q .0) t ≡ f → sendingStands f (recordFound t f) q s ≡ sendingQuarter t q s
+  unfolding sendingStands sendingQuarter placeOf
+  sends-found q s Nothing e = rw (e, sendingQuarter)
+  sends-found q s (At i) e = rw (e, sendingQuarter)
+
+pub judged-from : JudgedFrom
+unfolding judgedFrom
+judged-from t streams limit n read = ap (ifAccepted (isBad t) streams limit) (go read)
+  where
+    go : (v : Varint) → judgedReadFrom streams limit n v (find (askedIn v) t) (recordFound t (find (askedIn v) t)) ≡ judgedRead t streams limit n v
+    go Incomplete = unfold judgedReadFrom judgedRead in refl
+    go (Whole q size) = unfold judgedReadFrom judgedRead judgedQuarter askedIn in ap (ifWithin streams q) (stands-found t limit (n - size) (find q t))
+
+pub sending-from : SendingFrom
+unfolding sendingFrom sendingOf
+sending-from t id s =
+    let f = find (sought id) t in
+    ap (cond (isBad t) (sending.Refused badTable))
+    (if-request (quarterOf id) (sending.Refused notARequestStream) (λ q. sendingStands f (recordFound t f) q s) (λ q. sendingQuarter t q s)
+    (λ q e. sends-found t q s f (sought-found t id q e)))
+
+module _ (qs ms : List ℕ) (bad : Bool) (q : Quarter) (found : Found) (b : bad ≡ isBadRows qs ms) (f : found ≡ find (q .0) (tableOf qs ms)) where
   abbrev t : Table
   t = tableOf qs ms
 
-  -- rows that are no bad table have one length
-  pub rows-good : isBadRows qs ms ≡ false → (eqb (length qs) (length ms) ≡ true) × (isBad t ≡ false)
-  unfolding isBadRows
-  rows-good e = go (eqb (length qs) (length ms)) (isBad t) e
-    where
-      go : (a b : Bool) → (not a || b) ≡ false → (a ≡ true) × (b ≡ false)
-      go true true d = zero-one (cc)
-      go true false d = (refl, refl)
-      go false b d = zero-one (cc)
-
-  -- whatever refuses a bad table refuses bad rows
-  pub rows-bad {ℓ} : {X : Type ℓ} (f : Table → X) (r : X) → ((u : Table) → isBad u ≡ true → f u ≡ r) → isBadRows qs ms ≡ true → r ≡ cond (eqb (length qs) (length ms)) (f t) r
-  unfolding isBadRows
-  rows-bad f r h e = go (eqb (length qs) (length ms)) e
-    where
-      go : (a : Bool) → (not a || isBad t) ≡ true → r ≡ cond a (f t) r
-      go true d = sym (h t d)
-      go false d = refl
-
-  -- a place that is found is in both rows, and the record there is the stream's
-  pub found-at : (q i : ℕ) → find q t ≡ At i → (i < length qs) × (i < length ms) × (getD t i blank ≡ rowAt qs ms i)
-  found-at q i e =
-      let f = first-at (holds q) t i (sym (find-first q t) ∙ e) in
-      let l = length-table qs ms in
-      (omega (arith, f .within, l .0), omega (arith, f .within, l .1), row-at qs ms i (f .within))
-
--- ---- judging
-
-module _ (qs ms : List ℕ) (streams limit n : ℕ) (v : Varint) where
-  pub judge-bad : isBadRows qs ms ≡ true → judged.Refused badTable ≡ judgedRowsBy qs ms streams limit n v
+  pub judged-rows : (streams limit n : ℕ) (read : Varint) → q ≡ record { 0 = askedIn read } → (r : StreamRecord) → r ≡ recordFound t found
+      → judgedFrom bad streams limit n read found r ≡ judgedRowsBy qs ms streams limit n read
   unfolding judgedRowsBy
-  judge-bad e = rows-bad qs ms (λ (u : Table). judgedBy u streams limit n v) (judged.Refused badTable) (λ u d. rw d) e
+  judged-rows streams limit n read =
+      rows-by qs ms bad q found b f (askedIn read) (recordFound t) (λ x. judgedFrom x streams limit n read) (judged.Refused badTable) (judgedBy t streams limit n read)
+      (unfold judgedFrom in refl) (judged-from t streams limit n read)
 
-  module _ (g : isBadRows qs ms ≡ false) where
-    pub judge-limit : 65535 < limit → judged.Refused limitTooLarge ≡ judgedRowsBy qs ms streams limit n v
-    unfolding judgedRowsBy
-    judge-limit h = let e = rows-good qs ms g in rw (e .0, e .1, lt-leb limit 65535 h)
-
-    module _ (l : limit ≤ 65535) where
-      pub judge-streams : 2 ^ 60 < streams → judged.Refused numberTooLarge ≡ judgedRowsBy qs ms streams limit n v
-      unfolding judgedRowsBy
-      judge-streams h = let e = rows-good qs ms g in rw (e .0, e .1, le-leb limit 65535 l, lt-leb streams (2 ^ 60) h)
-
-      pub judge-rules : streams ≤ 2 ^ 60 → (j : Judged) → j ≡ judgedRead (tableOf qs ms) streams limit n v → j ≡ judgedRowsBy qs ms streams limit n v
-      unfolding judgedRowsBy
-      judge-rules h j k = let e = rows-good qs ms g in rw (e .0, e .1, le-leb limit 65535 l, le-leb streams (2 ^ 60) h) k
+  pub sending-rows : (id : StreamId) (s : Bool) → q ≡ record { 0 = sought id } → (r : StreamRecord) → r ≡ recordFound t found
+      → sendingFrom bad id s found r ≡ sendingRows qs ms id s
+  unfolding sendingRows
+  sending-rows id s =
+      rows-by qs ms bad q found b f (sought id) (recordFound t) (λ x. sendingFrom x id s) (sending.Refused badTable) (sendingOf t id s)
+      (unfold sendingFrom in refl) (sending-from t id s)
 
 -- a frame by its length and what is read of it
 pub judge-read : (qs ms : List ℕ) (streams limit : ℕ) (frame : List ℕ) (v : Varint) → v ≡ readVarint frame → judgedRowsBy qs ms streams limit (length frame) v ≡ judgedRows qs ms streams limit frame
 unfolding judgedRowsBy judgedRows judgedOf
 judge-read qs ms streams limit frame v e = ap (judgedRowsBy qs ms streams limit (length frame)) e
-
-module _ (t : Table) (streams limit q rest : ℕ) where
-  pub quarter-large : largestQuarter < q → judged.QuarterTooLarge ≡ judgedQuarter t streams limit q rest
-  unfolding judgedQuarter
-  quarter-large h = rw (lt-leb q largestQuarter h)
-
-  module _ (h : q ≤ largestQuarter) where
-    pub quarter-beyond : streams ≤ q → judged.BeyondLimit ≡ judgedQuarter t streams limit q rest
-    unfolding judgedQuarter
-    quarter-beyond l = rw (le-leb q largestQuarter h, le-ltb q streams l)
-
-    pub quarter-found : q < streams → (f : Found) → find q t ≡ f → (j : Judged) → j ≡ judgedFound t f limit rest → j ≡ judgedQuarter t streams limit q rest
-    unfolding judgedQuarter
-    quarter-found l f d j e = rw (le-leb q largestQuarter h, lt-ltb q streams l, d) e
-
--- ---- sending
-
-sending-bad : (id : StreamId) (s : Bool) (u : Table) → isBad u ≡ true → sendingOf u id s ≡ sending.Refused badTable
-unfolding sendingOf
-sending-bad id s u e = rw e
-
-module _ (qs ms : List ℕ) (id : StreamId) (s : Bool) where
-  pub send-bad : isBadRows qs ms ≡ true → sending.Refused badTable ≡ sendingRows qs ms id s
-  unfolding sendingRows
-  send-bad e = rows-bad qs ms (λ (u : Table). sendingOf u id s) (sending.Refused badTable) (sending-bad id s) e
-
-  send-by : QuarterOf → Sending
-  send-by NotRequestStream = sending.Refused notARequestStream
-  send-by (Is q) = sendingQuarter (tableOf qs ms) q s
-
-  send-is : isBadRows qs ms ≡ false → sendingRows qs ms id s ≡ send-by (quarterOf id)
-  unfolding sendingRows sendingOf send-by
-  send-is g = let e = rows-good qs ms g in rw (e .0, e .1)
-
-  pub send-other : isBadRows qs ms ≡ false → quarterOf id ≡ NotRequestStream → sending.Refused notARequestStream ≡ sendingRows qs ms id s
-  unfolding send-by
-  send-other g e = sym (send-is g ∙ ap send-by e)
-
-  pub send-found : isBadRows qs ms ≡ false → (q : Quarter) → quarterOf id ≡ Is q → sendingQuarter (tableOf qs ms) q s ≡ sendingRows qs ms id s
-  unfolding send-by
-  send-found g q e = sym (send-is g ∙ ap send-by e)
-
-module _ (t : Table) (q : Quarter) (s : Bool) where
-  pub sendee-none : find (q .0) t ≡ Nothing → sending.Refused notInTable ≡ sendingQuarter t q s
-  unfolding sendingQuarter
-  sendee-none e = rw (e, sendingQuarter)
-
-  pub sendee-at : (i : ℕ) → find (q .0) t ≡ At i → sendingRecord (getD t i blank) q s ≡ sendingQuarter t q s
-  unfolding sendingQuarter
-  sendee-at i e = rw (e, sendingQuarter)
 
 -- ---- what an answer says
 
@@ -157,25 +101,27 @@ sent-record r q q′ s e = go s (r .send) (r .semantics) e
     go true false b d = zero-one (cc)
     go false a b d = zero-one (cc)
 
-pub sent-quarter : (t : Table) (q q′ : Quarter) (s : Bool) → sendingQuarter t q s ≡ sending.To q′ → q ≡ q′
-sent-quarter t q q′ s e = go (find (q .0) t) refl
+sent-stands : (f : Found) (r : StreamRecord) (q q′ : Quarter) (s : Bool) → sendingStands f r q s ≡ sending.To q′ → q ≡ q′
+unfolding sendingStands
+sent-stands Nothing r q q′ s e = zero-one (cc)
+sent-stands (At i) r q q′ s e = sent-record r q q′ s e
+
+sent-from : (bad : Bool) (id : StreamId) (s : Bool) (f : Found) (r : StreamRecord) (q : Quarter) → sendingFrom bad id s f r ≡ sending.To q → quarterOf id ≡ Is q
+unfolding sendingFrom
+sent-from bad id s f r q e = go bad (quarterOf id) e
   where
-    go : (f : Found) → find (q .0) t ≡ f → q ≡ q′
-    go Nothing d = zero-one (cc (sendee-none t q s d))
-    go (At i) d = sent-record (getD t i blank) q q′ s (sendee-at t q s i d ∙ e)
+    go : (b : Bool) (x : QuarterOf) → cond b (sending.Refused badTable) (elim x [ NotRequestStream ↦ sending.Refused notARequestStream | Is p ↦ sendingStands f r p s ]) ≡ sending.To q → x ≡ Is q
+    go true x d = zero-one (cc)
+    go false NotRequestStream d = zero-one (cc)
+    go false (Is p) d = ap Is (sent-stands f r p q s d)
 
 -- a stream that may be sent to has a quarter that is one
-pub sent-bounded : (qs ms : List ℕ) (id : StreamId) (s : Bool) (q : Quarter) → sendingRows qs ms id s ≡ sending.To q → q .0 ≤ largest
-unfolding largest
-sent-bounded qs ms id s q e = go (isBadRows qs ms) refl (quarterOf id) refl
-  where
-    go : (b : Bool) → isBadRows qs ms ≡ b → (x : QuarterOf) → quarterOf id ≡ x → q .0 ≤ 2 ^ 62 - 1
-    go true b x d = zero-one (cc (send-bad qs ms id s b))
-    go false b NotRequestStream d = zero-one (cc (send-other qs ms id s b d))
-    go false b (Is q′) d =
-        let same : q′ ≡ q = sent-quarter (tableOf qs ms) q′ q s (send-found qs ms id s b q′ d ∙ e) in
-        let l : q′ .0 ≤ 2 ^ 60 - 1 = unfold largestQuarter in quarter-bounded id q′ d in
-        omega (arith, ap (λ (x : Quarter). x .0) same)
+sent-bounded : (bad : Bool) (id : StreamId) (s : Bool) (f : Found) (r : StreamRecord) (q : Quarter) → sendingFrom bad id s f r ≡ sending.To q → q .0 ≤ largest
+unfolding largest largestQuarter
+sent-bounded bad id s f r q e = omega (arith, quarter-bounded id q (sent-from bad id s f r q e))
+
+pub sent-quarter : (t : Table) (q q′ : Quarter) (s : Bool) → sendingQuarter t q s ≡ sending.To q′ → q ≡ q′
+sent-quarter t q q′ s e = let f = find (q .0) t in sent-stands f (recordFound t f) q q′ s (sends-found t q s f refl ∙ e)
 
 module _ (t : Table) (streams limit place q : ℕ) where
   record-place : (r : StreamRecord) (i rest : ℕ) → judgedRecord r i limit rest ≡ judged.Delivered place → i ≡ place
@@ -238,11 +184,20 @@ module _ (j : Judged) (frame : List ℕ) where
 
 -- ---- frames for any quarter
 
+pub frame-from : (bad : Bool) (id : StreamId) (settings : Bool) (f : Found) (r : StreamRecord) (path : ℕ) (payload out : List ℕ) (place : ℕ)
+    → frameFor (sendingFrom bad id settings f r) path payload out place ≡ frameWritten (sendingFrom bad id settings f r) path payload out place
+unfolding frameFor frameWritten
+frame-from bad id settings f r path payload out place = go (sendingFrom bad id settings f r) refl
+  where
+    go : (s : Sending) → sendingFrom bad id settings f r ≡ s → frameFor s path payload out place ≡ frameWritten s path payload out place
+    go (sending.Refused why) e = refl
+    go (sending.To q) e = rw (le-leb (q .0) largest (sent-bounded bad id settings f r q e))
+
 pub frame-for : (qs ms : List ℕ) (id : StreamId) (settings : Bool) (path : ℕ) (payload out : List ℕ) (place : ℕ)
     → frameFor (sendingRows qs ms id settings) path payload out place ≡ frameWritten (sendingRows qs ms id settings) path payload out place
-unfolding frameFor frameWritten
-frame-for qs ms id settings path payload out place = go (sendingRows qs ms id settings) refl
-  where
-    go : (s : Sending) → sendingRows qs ms id settings ≡ s → frameFor s path payload out place ≡ frameWritten s path payload out place
-    go (sending.Refused r) e = refl
-    go (sending.To q) e = rw (le-leb (q .0) largest (sent-bounded qs ms id settings q e))
+frame-for qs ms id settings path payload out place =
+    let f = find (sought id) (tableOf qs ms) in
+    let r = recordFound (tableOf qs ms) f in
+    subst (λ (s : Sending). frameFor s path payload out place ≡ frameWritten s path payload out place)
+    (sending-rows qs ms (isBadRows qs ms) (record { 0 = sought id }) f refl refl id settings refl r refl)
+    (frame-from (isBadRows qs ms) id settings f r path payload out place)

@@ -1,18 +1,20 @@
--- What holds of judging and writing. Each claim is a type here, and is proved in proofs/RoundTrips.antt under the same name.
+-- What holds of judging and writing: each claim is a type here, and is proved in proofs/ under its name in lower case with dashes.
 use Prim.Native.Nat.{ℕ, _+_, _^_, _≤_, _<_}
 use mathlib.Core.Path.{_≡_}
-use mathlib.Core.Bool.{true, false}
+use mathlib.Core.Bool.{Bool, true, false}
 use mathlib.Core.List.{List, [], _∷_}
 use lib.ListN.{length, getD}
+use Rattle.wire.specs.declared.units.StreamId.{StreamId}
+use Rattle.wire.specs.declared.varint.Varint.{Varint}
 use Rattle.wire.specs.declared.varint.Varint.the-variants.{Whole}
 use Rattle.wire.specs.Varint.{readVarint}
 use Rattle.streams.specs.declared.table.Found.the-variants.{At}
 use Rattle.streams.specs.Records.{blank, holds}
-use Rattle.streams.specs.Tables.{Table, isBad, find}
+use Rattle.streams.specs.Tables.{Table, isBad, find, sought, recordFound}
 use Rattle.capsule.specs.Grammar.{inType, parts}
 use Rattle.datagram.specs.declared.judge.Judged.the-variants.{Delivered}
-use Rattle.datagram.specs.Judging.{judgedOf, payloadOf}
-use Rattle.datagram.specs.Sending.{capsuleBytes, frameBytes}
+use Rattle.datagram.specs.Judging.{judgedBy, judgedOf, askedIn, judgedFrom, payloadOf}
+use Rattle.datagram.specs.Sending.{capsuleBytes, frameBytes, sendingOf, sendingFrom}
 
 -- a written capsule is, by the grammar, one complete DATAGRAM capsule with that payload, and nothing is left over
 abbrev pub CapsuleReadBack : Type 0
@@ -53,3 +55,15 @@ DeliveredRight =
     → judgedOf t streams limit frame ≡ Delivered place
     → readVarint frame ≡ Whole q size
     → holds q (getD t place blank) ≡ true
+
+-- ---- deciding by what was found (proofs/Deciding.antt)
+
+abbrev pub JudgedFrom : Type 0
+JudgedFrom =
+    (t : Table) (streams limit n : ℕ) (read : Varint)
+    → judgedFrom (isBad t) streams limit n read (find (askedIn read) t) (recordFound t (find (askedIn read) t)) ≡ judgedBy t streams limit n read
+
+abbrev pub SendingFrom : Type 0
+SendingFrom =
+    (t : Table) (id : StreamId) (settings : Bool)
+    → sendingFrom (isBad t) id settings (find (sought id) t) (recordFound t (find (sought id) t)) ≡ sendingOf t id settings

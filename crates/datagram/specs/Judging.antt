@@ -30,22 +30,27 @@ judgedFound t Nothing limit rest = NoStream
 judgedFound t (At i) limit rest = judgedRecord (getD t i blank) i limit rest
 
 -- rules 2 and 3: a quarter is at most 2^60-1, and below the stated stream limit
+abbrev pub ifWithin : ℕ → ℕ → Judged → Judged
+ifWithin streams q next = cond (leb q largestQuarter) (cond (ltb q streams) next BeyondLimit) QuarterTooLarge
+
 unfoldable pub judgedQuarter : Table → ℕ → ℕ → ℕ → ℕ → Judged
-judgedQuarter t streams limit q rest =
-    cond (leb q largestQuarter) (cond (ltb q streams) (judgedFound t (find q t) limit rest) BeyondLimit) QuarterTooLarge
+judgedQuarter t streams limit q rest = ifWithin streams q (judgedFound t (find q t) limit rest)
 
 -- rule 1: the payload, of n bytes, starts with the quarter as a varint
 unfoldable pub judgedRead : Table → ℕ → ℕ → ℕ → Varint → Judged
 judgedRead t streams limit n Incomplete = ShortFrame
 judgedRead t streams limit n (Whole q size) = judgedQuarter t streams limit q (n - size)
 
--- refusals 15, 3, 6, and then the rules: a table, the stated stream limit, the datagram limit, and a frame's payload by its length and what is
--- read at its front
-abbrev pub judgedBy : Table → ℕ → ℕ → ℕ → Varint → Judged
-judgedBy t streams limit n read =
-    cond (isBad t)
+-- refusals 15, 3, 6, and then the rules
+abbrev pub ifAccepted : Bool → ℕ → ℕ → Judged → Judged
+ifAccepted bad streams limit rules =
+    cond bad
     (Refused badTable)
-    (cond (leb limit 65535) (cond (leb streams (2 ^ 60)) (judgedRead t streams limit n read) (Refused numberTooLarge)) (Refused limitTooLarge))
+    (cond (leb limit 65535) (cond (leb streams (2 ^ 60)) rules (Refused numberTooLarge)) (Refused limitTooLarge))
+
+-- a table, the stated stream limit, the datagram limit, and a frame's payload by its length and what is read at its front
+abbrev pub judgedBy : Table → ℕ → ℕ → ℕ → Varint → Judged
+judgedBy t streams limit n read = ifAccepted (isBad t) streams limit (judgedRead t streams limit n read)
 
 unfoldable pub judgedOf : Table → ℕ → ℕ → List ℕ → Judged
 judgedOf t streams limit frame = judgedBy t streams limit (length frame) (readVarint frame)
@@ -61,6 +66,26 @@ ruleOf ReceiveClosed = some 5
 ruleOf NoSemantics = some 6
 ruleOf TooLong = some 7
 ruleOf (Delivered place) = some 8
+
+-- ---- the same by what was found: whether the table is bad, where the quarter stands, the record there
+
+-- the quarter that is looked for; no answer depends on it where none is read, and 0 stands there
+unfoldable pub askedIn : Varint → ℕ
+askedIn Incomplete = 0
+askedIn (Whole q size) = q
+
+-- rules 4 to 8
+unfoldable pub judgedStands : Found → StreamRecord → ℕ → ℕ → Judged
+judgedStands Nothing r limit rest = NoStream
+judgedStands (At i) r limit rest = judgedRecord r i limit rest
+
+-- rules 1 to 8
+unfoldable pub judgedReadFrom : ℕ → ℕ → ℕ → Varint → Found → StreamRecord → Judged
+judgedReadFrom streams limit n Incomplete found r = ShortFrame
+judgedReadFrom streams limit n (Whole q size) found r = ifWithin streams q (judgedStands found r limit (n - size))
+
+unfoldable pub judgedFrom : Bool → ℕ → ℕ → ℕ → Varint → Found → StreamRecord → Judged
+judgedFrom bad streams limit n read found r = ifAccepted bad streams limit (judgedReadFrom streams limit n read found r)
 
 -- ---- the payload: what follows the quarter, where it is delivered
 

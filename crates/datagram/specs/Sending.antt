@@ -12,6 +12,7 @@ use Rattle.wire.specs.Varint.{largest, encode}
 use Rattle.wire.specs.Writing.{Writing, refuses, writeAt}
 use Rattle.wire.specs.Units.{quarterOf}
 use Rattle.streams.specs.declared.record.StreamRecord.{StreamRecord}
+use Rattle.streams.specs.declared.table.Found.{Found}
 use Rattle.streams.specs.declared.table.Found.the-variants.{Nothing, At}
 use Rattle.streams.specs.Records.{blank}
 use Rattle.streams.specs.Tables.{Table, isBad, find}
@@ -45,6 +46,17 @@ sendingOf t id settings =
     cond (isBad t)
     (Refused badTable)
     (elim (quarterOf id) [ NotRequestStream ↦ Refused notARequestStream | Is q ↦ sendingQuarter t q settings ])
+
+-- the same by what was found: whether the table is bad, where the quarter stands, the record there
+unfoldable pub sendingStands : Found → StreamRecord → Quarter → Bool → Sending
+sendingStands Nothing r q settings = Refused notInTable
+sendingStands (At i) r q settings = sendingRecord r q settings
+
+unfoldable pub sendingFrom : Bool → StreamId → Bool → Found → StreamRecord → Sending
+sendingFrom bad id settings found r =
+    cond bad
+    (Refused badTable)
+    (elim (quarterOf id) [ NotRequestStream ↦ Refused notARequestStream | Is q ↦ sendingStands found r q settings ])
 
 -- 6, 5: a payload to send is at most 65,535 bytes
 unfoldable pub putCapsule : List ℕ → List ℕ → ℕ → Writing

@@ -2,13 +2,13 @@
 ghost use mathlib.Core.Path.{_≡_};
 ghost use Prim.Native.Nat.{_-_};
 ghost use Rattle.wire.specs.Varint.{readVarint};
-ghost use Rattle.streams.specs.Rows.{tableOf};
-ghost use Rattle.datagram.specs.Judging.{judgedRecord, judgedQuarter, judgedRowsBy, judgedRows, isDelivered, ifDelivered, behind, payloadRows};
+ghost use Rattle.datagram.specs.Judging.{judgedRecord, ifWithin, askedIn, judgedStands, judgedFrom, judgedRowsBy, judgedRows, isDelivered, ifDelivered, behind, payloadRows};
 use refusals::Refusal;
 use streams::record::StreamRecord;
 use streams::table::Found;
 use streams::table::find;
 use streams::table::is_bad;
+use streams::table::record_found;
 use wire::units::Quarter;
 use wire::varint::Varint;
 use wire::varint::read_varint;
@@ -66,16 +66,26 @@ fn judge_record(r: StreamRecord, place: usize, limit: u64, rest: u64) -> Judged
     Judged::Delivered(place)
 }
 
+// Rules 4 to 8.
+fn judge_found(found: Found, r: StreamRecord, limit: u64, rest: u64) -> Judged
+    ensures { λ j. ⌜ j ≡ judgedStands found r limit rest ⌝ }
+{
+    match found {
+        Found::Nothing => Judged::NoStream,
+        Found::At(i) => judge_record(r, i, limit, rest),
+    }
+}
+
 // Rules 2 to 8.
 fn judge_quarter(
-    quarters: &[u64],
-    marks: &[u8],
     streams: u64,
     limit: u64,
     q: u64,
     rest: u64,
+    found: Found,
+    r: StreamRecord,
 ) -> Judged
-    ensures { λ j. ⌜ j ≡ judgedQuarter (tableOf (now (quarters .entry)) (now (marks .entry))) streams limit q rest ⌝ }
+    ensures { λ j. ⌜ j ≡ ifWithin streams q (judgedStands found r limit rest) ⌝ }
 {
     let max = Quarter::MAX;
     if q > max.0 {
@@ -84,11 +94,7 @@ fn judge_quarter(
     if q >= streams {
         return Judged::BeyondLimit;
     }
-    let found = find(quarters, marks, Quarter(q));
-    match found {
-        Found::Nothing => Judged::NoStream,
-        Found::At(i) => judge_record(StreamRecord::of(quarters[i], marks[i]), i, limit, rest),
-    }
+    judge_found(found, r, limit, rest)
 }
 
 // How many bytes are left behind the first ones.
@@ -102,18 +108,30 @@ fn rest_of(length: u64, size: usize) -> u64
     length - taken
 }
 
-// Judges a frame's payload by its length and what is read at its front.
-pub fn judge_read(
-    quarters: &[u64],
-    marks: &[u8],
+// The quarter that is looked for.
+pub fn asked(read: Varint) -> Quarter
+    ensures { λ r. ⌜ r ≡ record { 0 = askedIn read } ⌝ }
+{
+    match read {
+        Varint::Incomplete => Quarter(0),
+        Varint::Whole { value, size: _ } => Quarter(value),
+    }
+}
+
+// Judges a frame's payload by its length and what is read at its front, by whether the table is bad, where the quarter stands, and the
+// record there.
+pub fn judge_from(
+    bad: bool,
     streams: u64,
     limit: u64,
     read: Varint,
     length: u64,
+    found: Found,
+    r: StreamRecord,
 ) -> Judged
-    ensures { λ j. ⌜ j ≡ judgedRowsBy (now (quarters .entry)) (now (marks .entry)) streams limit length read ⌝ }
+    ensures { λ j. ⌜ j ≡ judgedFrom bad streams limit length read found r ⌝ }
 {
-    if is_bad(quarters, marks) {
+    if bad {
         return Judged::Refused(Refusal::BAD_TABLE);
     }
     if limit > Judged::MAX_LIMIT {
@@ -125,16 +143,26 @@ pub fn judge_read(
     match read {
         Varint::Incomplete => Judged::ShortFrame,
         Varint::Whole { value, size } => {
-            judge_quarter(
-                quarters,
-                marks,
-                streams,
-                limit,
-                value,
-                rest_of(length, size),
-            )
+            judge_quarter(streams, limit, value, rest_of(length, size), found, r)
         }
     }
+}
+
+// Judges a frame's payload by its length and what is read at its front.
+pub fn judge_read(
+    quarters: &[u64],
+    marks: &[u8],
+    streams: u64,
+    limit: u64,
+    read: Varint,
+    length: u64,
+) -> Judged
+    ensures { λ j. ⌜ j ≡ judgedRowsBy (now (quarters .entry)) (now (marks .entry)) streams limit length read ⌝ }
+{
+    let bad = is_bad(quarters, marks);
+    let found = find(quarters, marks, asked(read));
+    let r = record_found(quarters, marks, found);
+    judge_from(bad, streams, limit, read, length, found, r)
 }
 
 // Judges a frame's payload by the stated stream limit and the datagram limit.

@@ -7,13 +7,14 @@ ghost use lib.Seq.{sets};
 ghost use Rattle.wire.specs.Varint.{largest, leastSize, encode};
 ghost use Rattle.wire.specs.Writing.{writing};
 ghost use mathlib.Core.Bool.{Bool};
-ghost use Rattle.streams.specs.Rows.{tableOf};
-ghost use Rattle.datagram.specs.Sending.{putCapsule, putFrame, agreed, sendingRecord, sendingQuarter, sendingRows, capsuleWritten, frameFor, writeCapsuleRows, writeFrameRows};
+ghost use Rattle.datagram.specs.Sending.{putCapsule, putFrame, agreed, sendingRecord, sendingStands, sendingFrom, sendingRows, capsuleWritten, frameFor, writeCapsuleRows, writeFrameRows};
 use refusals::Refusal;
 use streams::record::StreamRecord;
 use streams::table::Found;
 use streams::table::find;
 use streams::table::is_bad;
+use streams::table::record_found;
+use streams::table::sought;
 use wire::units::Quarter;
 use wire::units::QuarterOf;
 use wire::units::StreamId;
@@ -109,13 +110,25 @@ fn send_record(r: StreamRecord, quarter: Quarter, settings: bool) -> Sending
     Sending::To(quarter)
 }
 
-fn send_quarter(quarters: &[u64], marks: &[u8], quarter: Quarter, settings: bool) -> Sending
-    ensures { λ s. ⌜ s ≡ sendingQuarter (tableOf (now (quarters .entry)) (now (marks .entry))) quarter settings ⌝ }
+fn send_found(found: Found, r: StreamRecord, quarter: Quarter, settings: bool) -> Sending
+    ensures { λ s. ⌜ s ≡ sendingStands found r quarter settings ⌝ }
 {
-    let found = find(quarters, marks, quarter);
     match found {
         Found::Nothing => Sending::Refused(Refusal::NOT_IN_TABLE),
-        Found::At(i) => send_record(StreamRecord::of(quarters[i], marks[i]), quarter, settings),
+        Found::At(_) => send_record(r, quarter, settings),
+    }
+}
+
+// Whether the stream may be sent to, and its quarter, by whether the table is bad, where the quarter stands, and the record there.
+pub fn send_from(bad: bool, id: StreamId, settings: bool, found: Found, r: StreamRecord) -> Sending
+    ensures { λ s. ⌜ s ≡ sendingFrom bad id settings found r ⌝ }
+{
+    if bad {
+        return Sending::Refused(Refusal::BAD_TABLE);
+    }
+    match id.quarter() {
+        QuarterOf::NotRequestStream => Sending::Refused(Refusal::NOT_A_REQUEST_STREAM),
+        QuarterOf::Is(q) => send_found(found, r, q, settings),
     }
 }
 
@@ -123,14 +136,10 @@ fn send_quarter(quarters: &[u64], marks: &[u8], quarter: Quarter, settings: bool
 pub fn send(quarters: &[u64], marks: &[u8], id: StreamId, settings: bool) -> Sending
     ensures { λ s. ⌜ s ≡ sendingRows (now (quarters .entry)) (now (marks .entry)) id settings ⌝ }
 {
-    if is_bad(quarters, marks) {
-        return Sending::Refused(Refusal::BAD_TABLE);
-    }
-    let quarter = id.quarter();
-    match quarter {
-        QuarterOf::NotRequestStream => Sending::Refused(Refusal::NOT_A_REQUEST_STREAM),
-        QuarterOf::Is(q) => send_quarter(quarters, marks, q, settings),
-    }
+    let bad = is_bad(quarters, marks);
+    let found = find(quarters, marks, sought(id));
+    let r = record_found(quarters, marks, found);
+    send_from(bad, id, settings, found, r)
 }
 
 // Writes a DATAGRAM capsule where the stream may be sent to.

@@ -17,7 +17,7 @@ use Rattle.streams.specs.declared.table.Found.the-variants.{Nothing}
 use Rattle.streams.specs.declared.table.Closing.{Closing}
 use Rattle.streams.specs.declared.table.Closing.the-variants.{Refused, Closed}
 use Rattle.streams.specs.Records.{blank, bothClosed, isBlank, isBadRecord, holds, withClosed, closedSide}
-use Rattle.streams.specs.Tables.{Table, isBad, find, openAt, closingOf, tableOpened, tableClosed}
+use Rattle.streams.specs.Tables.{Table, isBad, find, openAt, closingOf, openFound, tableOpened, tableClosed}
 use Rattle.streams.specs.Claims.{ClosedTwice, FreedFoundAgain, FullThenFreed, StaysGood, OthersUntouched}
 use Rattle.streams.proofs.Places.{First, isFree, find-first, lowest-first, first-at, none-is, find-nothing}
 use Rattle.streams.proofs.Decisions.{open-found, opening-is, opened-so, Closes, closes, closed-so}
@@ -162,7 +162,7 @@ still-away q t i l e = find-first q (set t i blank) ∙ none-is (holds q) (set t
     (λ k m. after-set t i blank l k (λ f x. rw x (blank-free q)) (λ n x. rw x (find-nothing q t e k)))
 
 pub full-then-freed : FullThenFreed
-unfolding tableClosed openAt
+unfolding tableClosed openAt openFound
 full-then-freed t new q b all is away = (
   opening-is t new (Is q) is ∙ rw b (sym (open-found t q Nothing away) ∙ ap openAt (lowest-first t ∙ none-is isFree t (λ k l. ap not (all k l)))),
   λ id side i r e.

@@ -5,15 +5,13 @@ use native.Mathlib.Omega.{arith}
 use mathlib.Core.Bool.{Bool, true, false, cond, not, and-true, and-false, or-false}
 use mathlib.Core.List.{List, [], _∷_}
 use lib.Dec.{leb, ltb, eqb}
-use lib.ListN.{length, getD, drop}
+use lib.ListN.{length, getD, drop, List·getD-eq-default}
 use borrow.Author.Tests.{eq-eqb, ne-eqb, lt-ltb, leb-true, leb-false}
 use Rattle.streams.specs.declared.record.StreamRecord.{StreamRecord}
 use Rattle.streams.specs.declared.record.Side.the-variants.{Send}
-use Rattle.streams.specs.declared.record.Side.{Side}
-use Rattle.streams.specs.declared.table.Closing.the-variants.{Closed}
 use Rattle.wire.specs.Units.{largestQuarter}
-use Rattle.streams.specs.Records.{blank, bothClosed, isBlank, isBadRecord, holds, withClosed, closedSide}
-use Rattle.streams.specs.Tables.{Table, isBad, closeAt}
+use Rattle.streams.specs.Records.{blank, bothClosed, isBlank, isBadRecord, holds, withClosed}
+use Rattle.streams.specs.Tables.{Table, isBad}
 use Rattle.streams.specs.declared.table.Found.the-variants.{At}
 use Rattle.streams.specs.Search.{shift}
 use Rattle.streams.specs.Claims.{MarksReadBack, RowsStored}
@@ -137,10 +135,8 @@ module _ (qs ms : List ℕ) (i : ℕ) where
       go true e = omega (arith, length-quarters qs ms (leb-true (length qs) (length ms) e))
       go false e = let g : length ms < length qs = leb-false (length qs) (length ms) e in omega (arith, length-marks qs ms (omega arith))
 
-  pub close-row : (side : Side) (r after : StreamRecord) (freed : Bool) → i < length qs → i < length ms
-      → r ≡ rowAt qs ms i → after ≡ closedSide side r → freed ≡ bothClosed (withClosed side r) → Closed i after freed ≡ closeAt (tableOf qs ms) side i
-  unfolding closeAt
-  close-row side r after freed h l e a f = rw (row-at qs ms i (row-in h l), a, f, e)
+  pub row-out : length (tableOf qs ms) ≤ i → blank ≡ getD (tableOf qs ms) i blank
+  row-out h = sym (List·getD-eq-default (tableOf qs ms) blank h)
 
 module _ (qs ms : List ℕ) where
   pub rows-unequal : (length qs ≡ length ms → ⊥) → true ≡ isBadRows qs ms

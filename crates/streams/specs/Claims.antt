@@ -18,7 +18,7 @@ use Rattle.streams.specs.declared.table.Opening.the-variants as opening
 use Rattle.streams.specs.declared.table.Closing.{Closing}
 use Rattle.streams.specs.declared.table.Closing.the-variants as closing
 use Rattle.streams.specs.Records.{blank, bothClosed, holds, withClosed, closedSide}
-use Rattle.streams.specs.Tables.{Table, isBad, find, openingOf, closingOf, tableOpened, tableClosed}
+use Rattle.streams.specs.Tables.{Table, isBad, find, lowestFree, openingOf, closingOf, sought, recordFound, openingBy, closingBy, tableOpened, tableClosed}
 use Rattle.streams.specs.Rows.{recordOf, markOf, tableOf}
 
 -- every place below n is used
@@ -47,6 +47,16 @@ FindNothing = (q : ℕ) (t : Table) → find q t ≡ Nothing → (k : ℕ) → h
 -- in a good table a place that has the quarter is the one that is found
 abbrev pub FoundOnce : Type 0
 FoundOnce = (q i : ℕ) (t : Table) → isBad t ≡ false → holds q (getD t i blank) ≡ true → find q t ≡ At i
+
+-- ---- deciding by what was found (proofs/Decisions.antt)
+
+abbrev pub OpenedBy : Type 0
+OpenedBy = (t : Table) (id : StreamId) → openingBy (isBad t) id (find (sought id) t) (lowestFree t) ≡ openingOf t id
+
+abbrev pub ClosedBy : Type 0
+ClosedBy =
+    (t : Table) (id : StreamId) (side : Side)
+    → closingBy (isBad t) id side (find (sought id) t) (recordFound t (find (sought id) t)) ≡ closingOf t id side
 
 -- ---- opening (proofs/Openings.antt)
 

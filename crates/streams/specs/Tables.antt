@@ -7,6 +7,7 @@ use lib.Dec.{ltb}
 use Rattle.refusals.specs.Numbers.{notARequestStream, noFreePlace, alreadyInTable, notInTable, badTable}
 use Rattle.wire.specs.declared.units.StreamId.{StreamId}
 use Rattle.wire.specs.declared.units.Quarter.{Quarter}
+use Rattle.wire.specs.declared.units.QuarterOf.{QuarterOf}
 use Rattle.wire.specs.declared.units.QuarterOf.the-variants.{NotRequestStream, Is}
 use Rattle.wire.specs.Units.{quarterOf}
 use Rattle.streams.specs.declared.record.StreamRecord.{StreamRecord}
@@ -87,6 +88,44 @@ closingOf t id side =
     cond (isBad t)
     (closing.Refused badTable)
     (elim (quarterOf id) [ NotRequestStream ↦ closing.Refused notARequestStream | Is q ↦ closeQuarter t side q ])
+
+-- ---- the same by what was found: whether the table is bad, where the quarter stands, the record there, the lowest free place
+
+-- the quarter that is looked for; no answer depends on it where the ID is no request stream's, and 0 stands there
+unfoldable pub soughtIn : QuarterOf → ℕ
+soughtIn NotRequestStream = 0
+soughtIn (Is q) = q .0
+
+abbrev pub sought : StreamId → ℕ
+sought id = soughtIn (quarterOf id)
+
+-- the place whose record is read; no answer depends on it where nothing was found, and 0 stands there
+unfoldable pub placeOf : Found → ℕ
+placeOf Nothing = 0
+placeOf (At i) = i
+
+abbrev pub recordFound : Table → Found → StreamRecord
+recordFound t found = getD t (placeOf found) blank
+
+unfoldable pub openFound : Found → Found → Opening
+openFound (At i) free = opening.Refused alreadyInTable
+openFound Nothing free = openAt free
+
+unfoldable pub openingBy : Bool → StreamId → Found → Found → Opening
+openingBy bad id found free =
+    cond bad
+    (opening.Refused badTable)
+    (elim (quarterOf id) [ NotRequestStream ↦ opening.Refused notARequestStream | Is q ↦ openFound found free ])
+
+unfoldable pub closeFound : Side → Found → StreamRecord → Closing
+closeFound side Nothing r = closing.Refused notInTable
+closeFound side (At i) r = closing.Closed i (closedSide side r) (bothClosed (withClosed side r))
+
+unfoldable pub closingBy : Bool → StreamId → Side → Found → StreamRecord → Closing
+closingBy bad id side found r =
+    cond bad
+    (closing.Refused badTable)
+    (elim (quarterOf id) [ NotRequestStream ↦ closing.Refused notARequestStream | Is q ↦ closeFound side found r ])
 
 -- ---- the table afterwards
 

@@ -3,7 +3,7 @@ ghost use mathlib.Core.Path.{_≡_};
 ghost use Prim.Native.Nat.{_+_, _<_, _≤_};
 ghost use lib.ListN.{length, drop};
 ghost use Rattle.streams.specs.Records.{holds, isBadRecord};
-ghost use Rattle.streams.specs.Tables.{isBad, find, lowestFree, openAt, openQuarter, closeAt, closeQuarter};
+ghost use Rattle.streams.specs.Tables.{isBad, find, lowestFree, openAt, sought, placeOf, recordFound, openFound, openingBy, closeFound, closingBy};
 ghost use Rattle.streams.specs.Rows.{tableOf, rowAt, isBadRows, openingRows, closingRows};
 ghost use Rattle.streams.specs.Search.{findFrom, again, Marked, marked};
 use crate::record::Side;
@@ -173,6 +173,40 @@ pub fn is_bad(quarters: &[u64], marks: &[u8]) -> bool
     is_bad_table(quarters, marks)
 }
 
+// The quarter that is looked for.
+pub fn sought(id: StreamId) -> Quarter
+    ensures { λ r. ⌜ r ≡ record { 0 = sought id } ⌝ }
+{
+    match id.quarter() {
+        QuarterOf::NotRequestStream => Quarter(0),
+        QuarterOf::Is(quarter) => quarter,
+    }
+}
+
+// The place whose record is read.
+pub fn place_of(found: Found) -> usize
+    ensures { λ r. ⌜ r ≡ placeOf found ⌝ }
+{
+    match found {
+        Found::Nothing => 0,
+        Found::At(i) => i,
+    }
+}
+
+// The record there, and the blank where the table has no such place.
+pub fn record_found(quarters: &[u64], marks: &[u8], found: Found) -> StreamRecord
+    ensures { λ r. ⌜ r ≡ recordFound (tableOf (now (quarters .entry)) (now (marks .entry))) found ⌝ }
+{
+    let i = place_of(found);
+    if i >= quarters.len() {
+        return StreamRecord::BLANK;
+    }
+    if i >= marks.len() {
+        return StreamRecord::BLANK;
+    }
+    StreamRecord::of(quarters[i], marks[i])
+}
+
 fn open_at(place: Found) -> Opening
     ensures { λ r. ⌜ r ≡ openAt place ⌝ }
 {
@@ -182,12 +216,25 @@ fn open_at(place: Found) -> Opening
     }
 }
 
-fn open_quarter(quarters: &[u64], marks: &[u8], quarter: Quarter) -> Opening
-    ensures { λ r. ⌜ r ≡ openQuarter (tableOf (now (quarters .entry)) (now (marks .entry))) quarter ⌝ }
+fn open_found(found: Found, free: Found) -> Opening
+    ensures { λ r. ⌜ r ≡ openFound found free ⌝ }
 {
-    match find(quarters, marks, quarter) {
+    match found {
         Found::At(_) => Opening::Refused(Refusal::ALREADY_IN_TABLE),
-        Found::Nothing => open_at(lowest_free(quarters, marks)),
+        Found::Nothing => open_at(free),
+    }
+}
+
+// What opening a stream comes to, by whether the table is bad, where the quarter stands, and the lowest free place.
+pub fn open_by(bad: bool, id: StreamId, found: Found, free: Found) -> Opening
+    ensures { λ r. ⌜ r ≡ openingBy bad id found free ⌝ }
+{
+    if bad {
+        return Opening::Refused(Refusal::BAD_TABLE);
+    }
+    match id.quarter() {
+        QuarterOf::NotRequestStream => Opening::Refused(Refusal::NOT_A_REQUEST_STREAM),
+        QuarterOf::Is(_) => open_found(found, free),
     }
 }
 
@@ -195,29 +242,31 @@ fn open_quarter(quarters: &[u64], marks: &[u8], quarter: Quarter) -> Opening
 pub fn decide_open(quarters: &[u64], marks: &[u8], id: StreamId) -> Opening
     ensures { λ r. ⌜ r ≡ openingRows (now (quarters .entry)) (now (marks .entry)) id ⌝ }
 {
-    if is_bad(quarters, marks) {
-        return Opening::Refused(Refusal::BAD_TABLE);
+    let bad = is_bad(quarters, marks);
+    let found = find(quarters, marks, sought(id));
+    let free = lowest_free(quarters, marks);
+    open_by(bad, id, found, free)
+}
+
+fn close_found(side: Side, found: Found, r: StreamRecord) -> Closing
+    ensures { λ c. ⌜ c ≡ closeFound side found r ⌝ }
+{
+    match found {
+        Found::Nothing => Closing::Refused(Refusal::NOT_IN_TABLE),
+        Found::At(i) => Closing::Closed(i, r.closed(side), r.frees(side)),
+    }
+}
+
+// What closing a side of a stream comes to, by whether the table is bad, where the quarter stands, and the record there.
+pub fn close_by(bad: bool, id: StreamId, side: Side, found: Found, r: StreamRecord) -> Closing
+    ensures { λ c. ⌜ c ≡ closingBy bad id side found r ⌝ }
+{
+    if bad {
+        return Closing::Refused(Refusal::BAD_TABLE);
     }
     match id.quarter() {
-        QuarterOf::NotRequestStream => Opening::Refused(Refusal::NOT_A_REQUEST_STREAM),
-        QuarterOf::Is(quarter) => open_quarter(quarters, marks, quarter),
-    }
-}
-
-fn close_at(quarters: &[u64], marks: &[u8], side: Side, i: usize) -> Closing
-    requires { ⌜ (i < length (now quarters)) × (i < length (now marks)) ⌝ }
-    ensures { λ r. ⌜ r ≡ closeAt (tableOf (now (quarters .entry)) (now (marks .entry))) side i ⌝ }
-{
-    let record = StreamRecord::of(quarters[i], marks[i]);
-    Closing::Closed(i, record.closed(side), record.frees(side))
-}
-
-fn close_quarter(quarters: &[u64], marks: &[u8], side: Side, quarter: Quarter) -> Closing
-    ensures { λ r. ⌜ r ≡ closeQuarter (tableOf (now (quarters .entry)) (now (marks .entry))) side quarter ⌝ }
-{
-    match find(quarters, marks, quarter) {
-        Found::At(i) => close_at(quarters, marks, side, i),
-        Found::Nothing => Closing::Refused(Refusal::NOT_IN_TABLE),
+        QuarterOf::NotRequestStream => Closing::Refused(Refusal::NOT_A_REQUEST_STREAM),
+        QuarterOf::Is(_) => close_found(side, found, r),
     }
 }
 
@@ -225,11 +274,8 @@ fn close_quarter(quarters: &[u64], marks: &[u8], side: Side, quarter: Quarter) -
 pub fn decide_close(quarters: &[u64], marks: &[u8], id: StreamId, side: Side) -> Closing
     ensures { λ r. ⌜ r ≡ closingRows (now (quarters .entry)) (now (marks .entry)) id side ⌝ }
 {
-    if is_bad(quarters, marks) {
-        return Closing::Refused(Refusal::BAD_TABLE);
-    }
-    match id.quarter() {
-        QuarterOf::NotRequestStream => Closing::Refused(Refusal::NOT_A_REQUEST_STREAM),
-        QuarterOf::Is(quarter) => close_quarter(quarters, marks, side, quarter),
-    }
+    let bad = is_bad(quarters, marks);
+    let found = find(quarters, marks, sought(id));
+    let record = record_found(quarters, marks, found);
+    close_by(bad, id, side, found, record)
 }
