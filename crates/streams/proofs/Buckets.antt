@@ -11,11 +11,11 @@ use lib.Seq.{drop-cons, getD-set-same, getD-set-other}
 use borrow.Author.Tests.{eqb-true, eqb-false, le-ltb}
 use Rattle.streams.specs.declared.record.StreamRecord.{StreamRecord}
 use Rattle.streams.specs.declared.table.Found.{Found}
-use Rattle.streams.specs.Records.{blank, isBadRecord, holds}
+use Rattle.streams.specs.Records.{blank, bothClosed, isBlank, isBadRecord, holds}
 use Rattle.streams.specs.Tables.{Table, anyBad, standsIn, standsTwice, isBad}
-use Rattle.streams.specs.Search.{findFrom, again, bucket, Marked, marked}
-use Rattle.streams.specs.Rows.{tableOf, rowAt}
-use Rattle.streams.proofs.Reading.{length-table, row-at}
+use Rattle.streams.specs.Search.{findFrom, again, AllBlank, bucket, Marked, marked}
+use Rattle.streams.specs.Rows.{recordOf, tableOf, rowAt}
+use Rattle.streams.proofs.Reading.{length-table, length-quarters, row-at}
 use Rattle.streams.proofs.Places.{find-first, stands-first, isAt, shifted-at}
 
 -- ---- what the buckets say
@@ -44,7 +44,7 @@ module _ (seen : List ℕ) where
         go true x = rw (eqb-true k b x) (getD-set-same seen b 1 0 l)
         go false x = getD-set-other seen b k 1 0 (eqb-false k b x) ∙ e
 
-    stay : (t : Table) → Marked seen t → Marked (set seen b 1) t
+    pub stay : (t : Table) → Marked seen t → Marked (set seen b 1) t
     unfolding Marked
     stay [] m = tt
     stay (r ∷ rs) m = (λ u. still (bucket r) (m .0 u), stay rs (m .1))
@@ -98,13 +98,25 @@ up f step zero t h = h
 up f step (suc k) [] h = h
 up f step (suc k) (r ∷ rs) h = step r rs (up f step k rs h)
 
+-- blanks are good, none stands twice, and none has a bucket
+blank-fine : (u : Table) → AllBlank u → anyBad u ≡ false
+unfolding AllBlank anyBad isBadRecord isBlank bothClosed
+blank-fine [] b = refl
+blank-fine (r ∷ rs) b = rw (b .0) (blank-fine rs (b .1))
+
+blank-once : (u : Table) → AllBlank u → standsTwice u ≡ false
+unfolding AllBlank standsTwice
+blank-once [] b = refl
+blank-once (r ∷ rs) b = rw (b .0) (blank-once rs (b .1))
+
+blank-marks : (seen : List ℕ) (u : Table) → AllBlank u → Marked seen u
+unfolding AllBlank Marked
+blank-marks seen [] b = tt
+blank-marks seen (r ∷ rs) b = (λ x. absurd (true≢false (sym x ∙ ap (λ (z : StreamRecord). z .used) (b .0))), blank-marks seen rs (b .1))
+
 module _ (t : Table) where
-  pub down-first : (seen : List ℕ) (n : ℕ) → length seen ≡ 256 → n ≡ length t → Down t seen n
-  unfolding anyBad standsTwice Marked
-  down-first seen n l e =
-      let h : length t ≤ n = omega arith in
-      let d : drop n t ≡ [] = rw drop-of-length-le in
-      record { within = omega arith; size = l; fine = rw d; once = rw d; marks = rw d tt }
+  pub down-first : (seen : List ℕ) (n : ℕ) → length seen ≡ 256 → n ≤ length t → AllBlank (drop n t) → Down t seen n
+  down-first seen n l h b = record { within = h; size = l; fine = blank-fine (drop n t) b; once = blank-once (drop n t) b; marks = blank-marks seen (drop n t) b }
 
   pub any-found : (i : ℕ) → i < length t → isBadRecord (getD t i blank) ≡ true → true ≡ isBad t
   unfolding isBad anyBad
@@ -151,6 +163,26 @@ module _ (t : Table) where
           once = rw (down-cons, a′) (d .once);
           marks = rw (down-cons, s) (one-more seen r (drop i t) (d .size) (d .marks));
         }
+
+-- ---- blanks at the end of the rows
+
+module _ (qs ms : List ℕ) (e : length qs ≡ length ms) where
+  pub blanks-none : AllBlank (drop (length qs) (tableOf qs ms))
+  unfolding AllBlank
+  blanks-none =
+      let l : length (tableOf qs ms) ≤ length qs = length-table qs ms .0 in
+      let d : drop (length qs) (tableOf qs ms) ≡ [] = rw drop-of-length-le in
+      rw d tt
+
+  pub blanks-more : (i : ℕ) → 0 < i → i ≤ length qs → getD ms (i - 1) 0 ≡ 0 → getD qs (i - 1) 0 ≡ 0 → AllBlank (drop i (tableOf qs ms)) → AllBlank (drop (i - 1) (tableOf qs ms))
+  unfolding AllBlank recordOf
+  blanks-more i p l m q b =
+      let n : length qs ≡ length (tableOf qs ms) = length-quarters qs ms (omega arith) in
+      let inside : i - 1 < length (tableOf qs ms) = omega arith in
+      let k : suc (i - 1) ≡ i = omega arith in
+      let d : drop (i - 1) (tableOf qs ms) ≡ getD (tableOf qs ms) (i - 1) blank ∷ drop i (tableOf qs ms) = drop-cons (tableOf qs ms) (i - 1) blank inside ∙ rw k in
+      let r : getD (tableOf qs ms) (i - 1) blank ≡ blank = row-at qs ms (i - 1) inside ∙ rw (m, q) in
+      rw d (r, b)
 
 -- the same, of rows of numbers
 module _ (qs ms seen : List ℕ) (i : ℕ) (p : 0 < i) (d : Down (tableOf qs ms) seen i) where

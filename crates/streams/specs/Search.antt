@@ -8,6 +8,7 @@ use lib.ListN.{getD, set, drop}
 use Rattle.streams.specs.declared.record.StreamRecord.{StreamRecord}
 use Rattle.streams.specs.declared.table.Found.{Found}
 use Rattle.streams.specs.declared.table.Found.the-variants.{Nothing, At}
+use Rattle.streams.specs.Records.{blank}
 use Rattle.streams.specs.Tables.{Table, find, standsIn}
 
 -- a place that was counted from i
@@ -21,6 +22,11 @@ findFrom q t i = shift i (find q (drop i t))
 -- the record is used, and its quarter stands among some others
 unfoldable pub again : StreamRecord → Table → Bool
 again r rs = r .used && standsIn (r .quarter .0) rs
+
+-- every record is the blank
+unfoldable pub AllBlank : Table → Type 0
+AllBlank [] = Unit
+AllBlank (r ∷ rs) = (r ≡ blank) × AllBlank rs
 
 abbrev pub bucket : StreamRecord → ℕ
 bucket r = r .quarter .0 % 256

@@ -5,7 +5,7 @@ ghost use lib.ListN.{length, drop};
 ghost use Rattle.streams.specs.Records.{holds, isBadRecord};
 ghost use Rattle.streams.specs.Tables.{isBad, find, lowestFree, openAt, sought, placeOf, recordFound, openFound, openingBy, closeFound, closingBy};
 ghost use Rattle.streams.specs.Rows.{tableOf, rowAt, isBadRows, openingRows, closingRows};
-ghost use Rattle.streams.specs.Search.{findFrom, again, Marked, marked};
+ghost use Rattle.streams.specs.Search.{findFrom, again, AllBlank, Marked, marked};
 use crate::record::Side;
 use crate::record::StreamRecord;
 use refusals::Refusal;
@@ -141,13 +141,31 @@ fn mark(quarters: &[u64], marks: &[u8], seen: &mut [u8; 256], i: usize)
     seen[b] = 1;
 }
 
-// From the last record to the first.
+// How many records there are up to the last that is not the blank.
+fn occupied(quarters: &[u64], marks: &[u8]) -> usize
+    requires { ⌜ length (now quarters) ≡ length (now marks) ⌝ }
+    ensures { λ r. ⌜ (r ≤ length (tableOf (now (quarters .entry)) (now (marks .entry)))) × AllBlank (drop r (tableOf (now (quarters .entry)) (now (marks .entry)))) ⌝ }
+{
+    let mut i = quarters.len();
+    while 0 < i {
+        if marks[i - 1] != 0 {
+            return i;
+        }
+        if quarters[i - 1] != 0 {
+            return i;
+        }
+        i -= 1;
+    }
+    0
+}
+
+// From the last record to the first; the blanks at the end need no look, and a table has many.
 fn is_bad_table(quarters: &[u64], marks: &[u8]) -> bool
     requires { ⌜ (length (now quarters) ≡ length (now marks)) × (length (now quarters) ≤ 64) ⌝ }
     ensures { λ r. ⌜ r ≡ isBad (tableOf (now (quarters .entry)) (now (marks .entry))) ⌝ }
 {
     let mut seen = [0u8; 256];
-    let mut i = quarters.len();
+    let mut i = occupied(quarters, marks);
     while 0 < i {
         i -= 1;
         if bad_at(quarters, marks, i) {

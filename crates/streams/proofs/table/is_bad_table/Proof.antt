@@ -14,8 +14,11 @@ Inv-loop quarters marks seen₀ i₀ seen i = Down (tableOf quarters marks) seen
 abbrev μ-loop : tie.MeasureT-loop
 μ-loop quarters marks seen₀ i₀ seen i = i
 
+occupied-requires : tie.Need-occupied-requires Inv-loop μ-loop
+occupied-requires c κs = c .before .before .pre .0
+
 loop-holds : tie.Need-loop-holds Inv-loop μ-loop
-loop-holds c = let s = c .before .before in down-first _ (replicate 256 0) _ refl (length-quarters (s .args .quarters .now) (s .args .marks .now) (omega arith))
+loop-holds c = let o = c .occupied .ensures in down-first _ (replicate 256 0) _ refl (o .0) (o .1)
 
 sub-i : tie.Need-sub-i Inv-loop μ-loop
 sub-i c = omega arith
@@ -49,7 +52,7 @@ loop-again c =
 
 returns-3 : tie.Need-returns-3 Inv-loop μ-loop
 returns-3 c =
-    let s = c .before .before .before .before in
+    let s = c .before .before .before .before .before in
     down-end _ (c .before .loop .seen) _ (c .loop-test .left) (omega (arith, length-quarters (s .args .quarters .now) (s .args .marks .now) (omega arith))) (c .before .loop .inv)
 
 pub is-bad-table-spec : {M : Type 1} → statement M
@@ -58,6 +61,7 @@ is-bad-table-spec =
     (tie.spec
     Inv-loop
     μ-loop
+    occupied-requires
     loop-holds
     sub-i
     bad-at-requires
