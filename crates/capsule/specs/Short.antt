@@ -20,7 +20,7 @@ use Rattle.capsule.specs.declared.short.Inside.the-variants as insideAs
 use Rattle.capsule.specs.Calls.{Lent}
 use Rattle.capsule.specs.Reader.{fresh, Feeding, feedOf}
 
--- ---- a whole capsule between two others
+-- ---- between two capsules
 
 -- a type of one byte and a length of one or two, among at least three bytes
 unfoldable pub shortHeader : List ℕ → Header

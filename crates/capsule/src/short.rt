@@ -1,5 +1,5 @@
-// Short ways through the two commonest feedings: a whole capsule between two others, and a piece that lies within a value. Any other
-// feeding, refused ones too, is left to the general way.
+// Short ways through the commonest feedings: between two capsules, where a short header stands at the front of the piece, and within a value.
+// Any other feeding, refused ones too, is left to the general way.
 ghost use mathlib.Core.Path.{_≡_};
 ghost use Prim.Native.Nat.{_≤_};
 ghost use lib.ListN.{length};
