@@ -1,8 +1,12 @@
-pub mod Filling
-pub mod Home
-pub mod Loan
-pub mod Shared
+pub mod Words
+pub mod Calls
+pub mod Elements
+pub mod Surveying
+pub mod SurveyCalls
+pub mod Deciding
 pub mod Zeros
+pub mod Home
+pub mod Shared
 pub mod Storing
 pub mod DecideCall
 pub mod ChangeCall

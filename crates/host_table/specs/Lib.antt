@@ -1,3 +1,3 @@
+pub mod Surveys
 pub mod Queries
-pub mod Pouring
 pub mod Claims

@@ -2,8 +2,7 @@
 use Prim.Native.Nat.{ℕ}
 use mathlib.Core.Bool.{Bool, true, false, cond}
 use mathlib.Core.List.{List}
-use lib.ListN.{length, set, take}
-use lib.Dec.{leb}
+use lib.ListN.{length, set}
 use Rattle.refusals.specs.Numbers.{badTable}
 use Rattle.wire.specs.declared.units.StreamId.{StreamId}
 use Rattle.wire.specs.declared.units.QuarterOf.{QuarterOf}
@@ -12,24 +11,26 @@ use Rattle.wire.specs.Units.{quarterOf}
 use Rattle.wire.specs.Varint.{readVarint}
 use Rattle.streams.specs.declared.record.StreamRecord.{StreamRecord}
 use Rattle.streams.specs.declared.record.Side.{Side}
+use Rattle.streams.specs.declared.table.Found.{Found}
 use Rattle.streams.specs.declared.table.Opening.{Opening}
 use Rattle.streams.specs.declared.table.Opening.the-variants as opening
 use Rattle.streams.specs.declared.table.Closing.{Closing}
 use Rattle.streams.specs.declared.table.Closing.the-variants as closing
 use Rattle.streams.specs.Records.{blank, opened}
-use Rattle.streams.specs.Tables.{Table, openingOf, closingOf, tableOpened, tableClosed}
-use Rattle.streams.specs.Rows.{openingRows, closingRows}
+use Rattle.streams.specs.Tables.{Table, openingOf, closingOf, tableOpened, tableClosed, sought, openingBy, closingBy}
 use Rattle.datagram.specs.declared.judge.Judged.{Judged}
 use Rattle.datagram.specs.declared.judge.Judged.the-variants as judged
 use Rattle.datagram.specs.declared.write.Sending.{Sending}
 use Rattle.datagram.specs.declared.write.Sending.the-variants as sending
-use Rattle.datagram.specs.Judging.{judgedBy, judgedRowsBy}
-use Rattle.datagram.specs.Sending.{sendingOf, sendingRows}
+use Rattle.datagram.specs.Judging.{judgedBy, askedIn, judgedFrom}
+use Rattle.datagram.specs.Sending.{sendingOf, sendingFrom}
 use Rattle.host_table.specs.declared.query.Query.{Query}
 use Rattle.host_table.specs.declared.query.Query.the-variants.{Open, Close, Judge, Send}
 use Rattle.host_table.specs.declared.query.Decided.{Decided}
 use Rattle.host_table.specs.declared.query.Decided.the-variants.{Opens, Closes, Judges, Sends}
 use Rattle.host_table.specs.declared.query.Store.{Store}
+use Rattle.host_table.specs.declared.survey.Survey.{Survey}
+use Rattle.host_table.specs.Surveys.{foundIn, freeIn}
 
 -- what a frame that came asks
 abbrev pub judgeQuery : ℕ → ℕ → List ℕ → Query
@@ -48,12 +49,22 @@ changedOf t (Close id side) = tableClosed t (closingOf t id side)
 changedOf t (Judge a) = t
 changedOf t (Send id settings) = t
 
--- every query is refused by a bad table
-unfoldable pub refusedBad : Query → Decided
-refusedBad (Open id semantics) = Opens (opening.Refused badTable)
-refusedBad (Close id side) = Closes (closing.Refused badTable)
-refusedBad (Judge a) = Judges (judged.Refused badTable)
-refusedBad (Send id settings) = Sends (sending.Refused badTable)
+-- the quarter that is looked for
+unfoldable pub soughtBy : Query → ℕ
+soughtBy (Open id semantics) = sought id
+soughtBy (Close id side) = sought id
+soughtBy (Judge a) = askedIn (a .read)
+soughtBy (Send id settings) = sought id
+
+-- by what was found of the table: whether it is bad, where the quarter stands, the lowest free place, the record at the place found
+unfoldable pub decidedWith : Query → Bool → Found → Found → StreamRecord → Decided
+decidedWith (Open id semantics) bad found free r = Opens (openingBy bad id found free)
+decidedWith (Close id side) bad found free r = Closes (closingBy bad id side found r)
+decidedWith (Judge a) bad found free r = Judges (judgedFrom bad (a .streams) (a .limit) (a .length) (a .read) found r)
+decidedWith (Send id settings) bad found free r = Sends (sendingFrom bad id settings found r)
+
+abbrev pub decidedBy : Query → Survey → StreamRecord → Decided
+decidedBy query s r = decidedWith query (s .bad) (foundIn s) (freeIn s) r
 
 -- ---- an answer, out of one that is of its kind
 
@@ -109,15 +120,3 @@ storeOf (Send id settings) d = nothingStored
 
 abbrev pub stored : Store → Table → Table
 stored s t = cond (s .writes) (set t (s .place) (s .kept)) t
-
--- ---- the table as two rows of numbers
-
-unfoldable pub decidedRows : List ℕ → List ℕ → Query → Decided
-decidedRows qs ms (Open id semantics) = Opens (openingRows qs ms id)
-decidedRows qs ms (Close id side) = Closes (closingRows qs ms id side)
-decidedRows qs ms (Judge a) = Judges (judgedRowsBy qs ms (a .streams) (a .limit) (a .length) (a .read))
-decidedRows qs ms (Send id settings) = Sends (sendingRows qs ms id settings)
-
--- of the first n places of both rows; more than 64 are no table
-unfoldable pub decidedFirst : List ℕ → List ℕ → ℕ → Query → Decided
-decidedFirst qs ms n query = cond (leb n 64) (decidedRows (take n qs) (take n ms) query) (refusedBad query)

@@ -1,14 +1,13 @@
-// What a table is asked, and what it answers: decided over two rows of numbers that a lent row of records is poured into.
+// What a table is asked, and what it answers, by what was found of it.
 ghost use mathlib.Core.Path.{_≡_};
-ghost use Prim.Native.Nat.{_≤_};
 ghost use mathlib.Core.Bool.{true};
-ghost use lib.ListN.{length, take};
 ghost use Rattle.wire.specs.Varint.{readVarint};
 ghost use Rattle.wire.specs.Writing.{writing};
 ghost use Rattle.datagram.specs.Judging.{behind, ifDelivered};
 ghost use Rattle.datagram.specs.Sending.{agreed, capsuleWritten, frameFor};
-ghost use Rattle.host_table.specs.Queries.{refusedBad, decidedRows, decidedFirst, judgeQuery, openingIn, closingIn, judgedIn, sendingIn, nothingStored, openedStore, closedStore, storeOf};
-ghost use Rattle.host_table.specs.Pouring.{fitting};
+ghost use Rattle.host_table.specs.Queries.{soughtBy, decidedBy, judgeQuery, openingIn, closingIn, judgedIn, sendingIn, nothingStored, openedStore, closedStore, storeOf};
+use crate::survey;
+use crate::survey::Survey;
 use datagram::judge;
 use datagram::judge::Judged;
 use datagram::write;
@@ -94,50 +93,48 @@ pub fn sends_frame(id: StreamId, ours: u64, peers: u64) -> Query
     Query::Send(id, write::are_agreed(ours, peers))
 }
 
-fn refused_bad(query: Query) -> Decided
-    ensures { λ r. ⌜ r ≡ refusedBad query ⌝ }
+// The quarter that is looked for.
+pub(crate) fn sought(query: Query) -> u64
+    ensures { λ r. ⌜ r ≡ soughtBy query ⌝ }
 {
     match query {
-        Query::Open(_, _) => Decided::Opens(Opening::Refused(Refusal::BAD_TABLE)),
-        Query::Close(_, _) => Decided::Closes(Closing::Refused(Refusal::BAD_TABLE)),
-        Query::Judge(_) => Decided::Judges(Judged::Refused(Refusal::BAD_TABLE)),
-        Query::Send(_, _) => Decided::Sends(Sending::Refused(Refusal::BAD_TABLE)),
-    }
-}
-
-fn decide_rows(quarters: &[u64], marks: &[u8], query: Query) -> Decided
-    ensures { λ r. ⌜ r ≡ decidedRows (now (quarters .entry)) (now (marks .entry)) query ⌝ }
-{
-    match query {
-        Query::Open(id, _) => Decided::Opens(table::decide_open(quarters, marks, id)),
-        Query::Close(id, side) => Decided::Closes(table::decide_close(quarters, marks, id, side)),
+        Query::Open(id, _) => {
+            let quarter = table::sought(id);
+            quarter.0
+        }
+        Query::Close(id, _) => {
+            let quarter = table::sought(id);
+            quarter.0
+        }
         Query::Judge(a) => {
             let read = a.read;
-            Decided::Judges(judge::judge_read(quarters, marks, a.streams, a.limit, read, a.length))
+            let quarter = judge::asked(read);
+            quarter.0
         }
-        Query::Send(id, settings) => Decided::Sends(write::send(quarters, marks, id, settings)),
+        Query::Send(id, _) => {
+            let quarter = table::sought(id);
+            quarter.0
+        }
     }
 }
 
-// By the first n places of both rows.
-pub(crate) fn decide_first(quarters: &[u64], marks: &[u8], n: usize, query: Query) -> Decided
-    requires { ⌜ (64 ≤ length (now quarters)) × (64 ≤ length (now marks)) ⌝ }
-    ensures { λ r. ⌜ r ≡ decidedFirst (now (quarters .entry)) (now (marks .entry)) n query ⌝ }
+// What a table answers, by what was found of it and the record that stands at the place found.
+pub fn answer(query: Query, survey: Survey, r: StreamRecord) -> Decided
+    ensures { λ d. ⌜ d ≡ decidedBy query survey r ⌝ }
 {
-    if n > 64 {
-        return refused_bad(query);
+    let bad = survey.bad;
+    let found = survey::found_in(survey);
+    match query {
+        Query::Open(id, _) => {
+            Decided::Opens(table::open_by(bad, id, found, survey::free_in(survey)))
+        }
+        Query::Close(id, side) => Decided::Closes(table::close_by(bad, id, side, found, r)),
+        Query::Judge(a) => {
+            let read = a.read;
+            Decided::Judges(judge::judge_from(bad, a.streams, a.limit, read, a.length, found, r))
+        }
+        Query::Send(id, settings) => Decided::Sends(write::send_from(bad, id, settings, found, r)),
     }
-    decide_rows(&quarters[..n], &marks[..n], query)
-}
-
-// How many of n records are poured.
-pub(crate) fn fitting(n: usize) -> usize
-    ensures { λ r. ⌜ r ≡ fitting n ⌝ }
-{
-    if n > 64 {
-        return 0;
-    }
-    n
 }
 
 pub fn opening_in(decided: Decided) -> Opening

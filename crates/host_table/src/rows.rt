@@ -1,18 +1,18 @@
-// The calls over a lent row of stream records. Records are poured into two rows of numbers, all decisions are made there, and at most one record
-// is stored.
+// The calls over a lent row of stream records. The row is looked through once, all is decided from what was found, and at most one record is stored.
 ghost use mathlib.Core.Path.{_≡_};
-ghost use Prim.Native.Nat.{_≤_};
-ghost use lib.ListN.{length, take};
+ghost use lib.ListN.{length, getD, drop};
 ghost use Rattle.wire.specs.Writing.{writing};
-ghost use Rattle.streams.specs.Rows.{markOf};
-ghost use Rattle.streams.specs.Tables.{openingOf, tableOpened, closingOf, tableClosed};
+ghost use Rattle.streams.specs.Records.{blank};
+ghost use Rattle.streams.specs.Tables.{standsIn, openingOf, tableOpened, closingOf, tableClosed};
 ghost use Rattle.datagram.specs.Judging.{judgedOf, payloadOf};
 ghost use Rattle.datagram.specs.Sending.{writeCapsule, writeFrame};
 ghost use Rattle.host_table.specs.Queries.{decidedOf, changedOf};
-ghost use Rattle.host_table.specs.Pouring.{poured, quarterNumber};
+ghost use Rattle.host_table.specs.Surveys.{surveyOf};
 use crate::query;
 use crate::query::Decided;
 use crate::query::Query;
+use crate::survey;
+use crate::survey::Survey;
 use datagram::judge::Judged;
 use streams::record::Side;
 use streams::record::StreamRecord;
@@ -21,30 +21,64 @@ use streams::table::Opening;
 use wire::units::StreamId;
 use wire::varint::Written;
 
-// The first n records, into the front of two rows of numbers.
-fn pour(rows: &[StreamRecord], n: usize, quarters: &mut [u64], marks: &mut [u8])
-    requires { ⌜ (n ≤ length (now rows)) × (n ≤ length (now quarters)) × (n ≤ length (now marks)) ⌝ }
-    ensures { λ _. ⌜ (now (quarters .exit) ≡ poured quarterNumber (now (quarters .entry)) (take n (now (rows .entry))))
-        × (now (marks .exit) ≡ poured markOf (now (marks .entry)) (take n (now (rows .entry)))) ⌝ }
+// The record at a place, and the blank where there is none.
+fn record_at(rows: &[StreamRecord], i: usize) -> StreamRecord
+    ensures { λ r. ⌜ r ≡ getD (now (rows .entry)) i blank ⌝ }
 {
-    let mut i: usize = 0;
+    if i < rows.len() {
+        return rows[i];
+    }
+    StreamRecord::BLANK
+}
+
+// Whether a used record from a place on has the quarter.
+fn stands_from(rows: &[StreamRecord], place: usize, quarter: u64) -> bool
+    ensures { λ r. ⌜ r ≡ standsIn quarter (drop place (now (rows .entry))) ⌝ }
+{
+    let n = rows.len();
+    let mut i = place;
+    let mut stands = false;
     while i < n {
         let record = rows[i];
-        quarters[i] = record.quarter.0;
-        marks[i] = record.marks();
+        stands = survey::stands(stands, record, quarter);
         i += 1;
     }
+    stands
+}
+
+// From the last record to the first. Each used one marks its quarter's bucket, and the records behind it are searched for its quarter only if the
+// bucket is marked already.
+fn look_through(rows: &[StreamRecord], quarter: u64, seen: &mut [u8]) -> Survey
+    requires { ⌜ length (now seen) ≡ 256 ⌝ }
+    ensures { λ r. ⌜ r ≡ surveyOf quarter (now (rows .entry)) ⌝ }
+{
+    let n = rows.len();
+    let mut known = survey::nothing_seen(n);
+    let mut i = survey::fitting(n);
+    while 0 < i {
+        i -= 1;
+        let record = rows[i];
+        if record.used {
+            let b = survey::bucket(record);
+            let from = survey::searched_from(seen[b], i, n);
+            seen[b] = 1;
+            let again = stands_from(rows, from, record.quarter.0);
+            known = survey::look_used(known, record, i, again, quarter);
+        } else {
+            known = survey::look_free(known, record, i);
+        }
+    }
+    known
 }
 
 // What a table answers.
 pub fn decide(rows: &[StreamRecord], query: Query) -> Decided
     ensures { λ r. ⌜ r ≡ decidedOf (now (rows .entry)) query ⌝ }
 {
-    let n = rows.len();
-    let mut quarters = [0u64; 64];
-    let mut marks = [0u8; 64];
-    pour(rows, query::fitting(n), &mut quarters, &mut marks);
-    query::decide_first(&quarters, &marks, n, query)
+    let mut seen = [0u8; 256];
+    let survey = look_through(rows, query::sought(query), &mut seen);
+    let record = record_at(rows, survey::place(survey));
+    query::answer(query, survey, record)
 }
 
 // What a table answers, with the record stored that it comes to.

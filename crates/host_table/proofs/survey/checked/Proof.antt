@@ -1,0 +1,40 @@
+use mathlib.Core.Path.{_≡_, refl, sym, ap, _∙_}
+use mathlib.Core.Bool.{Bool, true, false, _||_}
+use borrow.Author.Needs.{needs}
+use Rattle.streams.specs.declared.record.StreamRecord.{StreamRecord}
+use Rattle.streams.specs.Records.{isBadRecord}
+use Rattle.host_table.specs.declared.survey.Survey.{Survey}
+use Rattle.host_table.specs.Surveys.{checked}
+use Rattle.host_table.proofs.survey.checked.Statement.{statement}
+use Rattle.host_table.proofs.survey.checked.Tie as tie
+
+abbrev with-bad : Survey → Bool → Survey
+with-bad s b = record { places = s .places; bad = b; found = s .found; free = s .free }
+
+-- the three ways out
+is-again : (s : Survey) (r : StreamRecord) (again : Bool) → again ≡ true → with-bad s true ≡ checked s r again
+unfolding checked
+is-again s r again e = ap (λ (b : Bool). with-bad s ((b || isBadRecord r) || s .bad)) (sym e)
+
+is-checked : (s : Survey) (r : StreamRecord) (again bad : Bool) → again ≡ false → bad ≡ isBadRecord r → with-bad s (bad || s .bad) ≡ checked s r again
+unfolding checked
+is-checked s r again bad e f = ap (λ (b : Bool). with-bad s (b || s .bad)) f ∙ ap (λ (b : Bool). with-bad s ((b || isBadRecord r) || s .bad)) (sym e)
+
+returns : tie.Need-returns
+returns c = let a = c .before .args in is-again (a .known) (a .r) (a .again) (c .if1 .taken)
+
+is-bad-requires : tie.Need-is-bad-requires
+is-bad-requires c κs = search needs
+
+returns-2 : tie.Need-returns-2
+returns-2 c =
+    let a = c .before .before .before .args in
+    is-checked (a .known) (a .r) (a .again) true (c .before .before .if1 .left) (sym (c .if2 .taken) ∙ c .before .is-bad .ensures)
+
+returns-3 : tie.Need-returns-3
+returns-3 c =
+    let a = c .before .before .before .args in
+    is-checked (a .known) (a .r) (a .again) false (c .before .before .if1 .left) (sym (c .if2 .left) ∙ c .before .is-bad .ensures)
+
+pub checked-spec : {M : Type 1} → statement M
+checked-spec = tie.close (tie.spec returns is-bad-requires returns-2 returns-3)
