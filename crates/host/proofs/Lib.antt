@@ -1,6 +1,10 @@
 pub mod Refusals
 pub mod Lying
 pub mod Meeting
+pub mod Calling
+pub mod Lending
+pub mod Beside
+pub mod InPlace
 pub mod AdaptedClose
 pub mod AdaptedFeed
 pub mod ReaderField
