@@ -15,13 +15,12 @@ use types.Run.{look, look-raw, init, store-raw, forget, stop, hop, fld, from, lo
 use types.Part.{whole, sub, look-in}
 use sound.WpLaws.{FmC}
 use denote.Laws.{Is}
-use denote.Ref.{now}
 use denote.Steps.{only, owned}
 use denote.Struct.Laws as LL
 use denote.Enum.Laws as EL
 use denote.Triple.Statement.{Triple}
 use denote.Triple.Table.{cited}
-use Rattle.capsule.specs.Reader.{closing, closeOf}
+use Rattle.capsule.specs.Reader.{closeOf}
 use Rattle.capsule.specs.declared.reader.Reader.{Reader}
 use Rattle.capsule.proofs.reader.Reader as T
 use Rattle.capsule.proofs.reader.Reader.Laws as T′
@@ -39,10 +38,8 @@ use Rattle.host.proofs.reader.close_in_place.Code as code
 use Rattle.host.proofs.Calling.{Fact, Ensures, calls-ensuring}
 use Rattle.host.proofs.Lending.{opens-struct, closes-struct}
 use Rattle.host.proofs.Beside.{alone}
-use Rattle.host.proofs.InPlace.{placed, EntryInPlace, OwedInPlace, ends-in-place, meets-in-place}
-
-abbrev Closes : Fact (placed T.the-type T′.the-laws T′.the-plain E.the-row 0 (alone 1))
-Closes κs a r e = closing (now (e .0)) r ≡ closeOf (now (a .0))
+use Rattle.host.proofs.Facts.{Closes}
+use Rattle.host.proofs.InPlace.{EntryInPlace, OwedInPlace, ends-in-place, meets-in-place}
 
 abbrev ClosesValue : Fact g.ended
 ClosesValue κs a r e = r ≡ closeOf (a .0)
