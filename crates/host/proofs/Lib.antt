@@ -5,6 +5,7 @@ pub mod Calling
 pub mod Lending
 pub mod Beside
 pub mod InPlace
+pub mod ByValue
 pub mod Facts
 pub mod AdaptedClose
 pub mod AdaptedFeed
