@@ -10,12 +10,11 @@ use prog.Wp.{Heap, Calls, Loops, WpFn}
 use ghost.Atoms.{Atoms}
 use contract.Lifetimes.{Lfts, Shares}
 use contract.Running.{givenOf, tables}
-use types.Kit.{Given, Sq, prop, ‵, _$_, !, move, drop, rewrite, fsplit, fjoin}
+use types.Kit.{Given, Sq, prop, ‵, _$_, !, move, rewrite}
 use types.Run.{look, look-raw, init, store-raw, forget, stop, hop, fld, from, load, of-opd, and-then, no-more, assigns, land, returns, enter, alloc1, alloc0, params1, pass1, pass0, free1, free0}
 use types.Part.{whole, sub, look-in}
 use sound.WpLaws.{FmC}
-use denote.Laws.{Is}
-use denote.Steps.{only, owned}
+use denote.Steps.{only}
 use denote.Struct.Laws as LL
 use denote.Enum.Laws as EL
 use denote.Triple.Statement.{Triple}
@@ -28,23 +27,23 @@ use Rattle.capsule.proofs.reader.CloseAnswer as E
 use Rattle.capsule.proofs.reader.CloseAnswer.Laws as E′
 use Rattle.capsule.proofs.reader.Closed as P
 use Rattle.capsule.proofs.reader.Closed.Laws as P′
-use Rattle.capsule.proofs.reader.Reader.close as g
 use Rattle.capsule.proofs.reader.Reader.close.Symbol as g-def
 use Rattle.capsule.proofs.reader.Reader.close.Symbol.{name as #g}
 use Rattle.capsule.proofs.reader.Reader.close.Met as g-thm
 use Rattle.host.proofs.reader.close_in_place.Key.{name as #f}
 use Rattle.host.proofs.reader.close_in_place.Statement as stated
 use Rattle.host.proofs.reader.close_in_place.Code as code
-use Rattle.host.proofs.Calling.{Fact, Ensures, calls-ensuring}
+use Rattle.host.proofs.Calling.{Fact, Ensures}
+use Rattle.host.proofs.ByValue.{valued, calls-by-value}
 use Rattle.host.proofs.Lending.{opens-struct, closes-struct}
 use Rattle.host.proofs.Beside.{alone}
 use Rattle.host.proofs.Facts.{Closes}
 use Rattle.host.proofs.InPlace.{EntryInPlace, OwedInPlace, ends-in-place, meets-in-place}
 
-abbrev ClosesValue : Fact g.ended
+abbrev ClosesValue : Fact (valued T.the-type T′.the-laws T′.the-plain P.the-row 0 (alone 0))
 ClosesValue κs a r e = r ≡ closeOf (a .0)
 
-module _ {M : Type 1} (𝓤 : URA M) (H : Heap 𝓤) (A : Atoms 𝓤) (W : Given 𝓤 H A) (C : Calls 𝓤 H) (Λ : Loops 𝓤 H) (fm : FmC 𝓤 H (W .laws) C) (known : Triple 𝓤 (C #g) (Ensures g.ended ClosesValue 𝓤 H A)) (κs : Lfts 1) (qs : Shares 1) (b o : ℕ) (γ : GName) (h : Reader) where
+module _ {M : Type 1} (𝓤 : URA M) (H : Heap 𝓤) (A : Atoms 𝓤) (W : Given 𝓤 H A) (C : Calls 𝓤 H) (Λ : Loops 𝓤 H) (fm : FmC 𝓤 H (W .laws) C) (known : Triple 𝓤 (C #g) (Ensures (valued T.the-type T′.the-laws T′.the-plain P.the-row 0 (alone 0)) ClosesValue 𝓤 H A)) (κs : Lfts 1) (qs : Shares 1) (b o : ℕ) (γ : GName) (h : Reader) where
   walk : Sq W (EntryInPlace T.the-type T′.the-laws T′.the-plain E.the-row 0 (alone 1) Closes 𝓤 H A W κs qs b o γ h tt)
       (prop (WpFn 𝓤 H C Λ code.function (vptr b o ∷ []) (OwedInPlace T.the-type T′.the-laws T′.the-plain E.the-row 0 (alone 1) Closes 𝓤 H A W κs qs b o γ h tt)))
   walk =
@@ -52,9 +51,7 @@ module _ {M : Type 1} (𝓤 : URA M) (H : Heap 𝓤) (A : Atoms 𝓤) (W : Given
       params1 ! $ pass1 ! (init ! 4 refl (tt, tt)) $ pass0 ! $ move ! (8 ∷ 9 ∷ 10 ∷ []) $ opens-struct T.the-type T′.the-laws T′.the-plain b o ! tt h (λ was.
       -- [the cell; the open borrow; obs; auth; _3 at 4; _2; _1; _0 at 10; the tokens at 12; the others]
       assigns ! (of-opd ! (load ! (from ! (hop ! (look ! 8 refl) (stop !))) (look-raw ! 0 refl))) (from ! (stop !)) (init ! 4 refl (LL.lawful T.the-type T′.the-laws 𝓤 H A W .typed h _ was .0)) $
-      move ! (13 ∷ []) $ owned ! T.the-row (Is T.the-row) (LL.makes T.the-type T′.the-plain 𝓤 H A) h _ was $ fjoin ! $ move ! (13 ∷ 0 ∷ []) $
-      calls-ensuring ! fm g.ended ClosesValue known tt tt tt (h, tt) (LL.vals T.the-type T′.the-laws h, tt) refl (and-then ! (load ! (from ! (stop !)) (look ! 5 refl)) (no-more !)) (λ v r ws e is.
-      move ! (1 ∷ []) $ fsplit ! $ drop ! $ move ! (1 ∷ []) $
+      move ! (12 ∷ 13 ∷ []) $ calls-by-value T.the-type T′.the-laws T′.the-plain P.the-row 0 (alone 0) ! fm ClosesValue known h tt tt tt tt was (and-then ! (load ! (from ! (stop !)) (look ! 5 refl)) (no-more !)) (λ v r last ws e is.
       -- [the tokens; the others; the cell; the open borrow; obs; auth; _3 at 6; _2; _1; _0 at 12]
       let fields = LL.owed P.the-type P′.the-laws r (v ∷ []) is in
       land ! (from ! (stop !)) (init ! 8 refl (LL.lawful P.the-type P′.the-laws 𝓤 H A W .typed r _ is .0)) $ rewrite ! 8 (λ (u : Val). ‵ (fat fullShare P′.mir l₂ 0 u)) (ap only (LL.tells P.the-type P′.the-laws r (v ∷ []) is)) refl $
@@ -70,4 +67,4 @@ unfolding code.routine
 close-in-place-spec 𝓤 H 𝓜 𝓖 𝓡 =
     meets-in-place T.the-type T′.the-laws T′.the-plain E.the-row 0 (alone 1) Closes 𝓤 H 𝓜 𝓖 𝓡 code.env #f code.function (code.unfolded 𝓤 H 𝓜 𝓡)
     (λ fm κs qs b o γ h a are. walk 𝓤 H (𝓖 .A) (givenOf 𝓤 H 𝓜 𝓖) (tables 𝓤 H 𝓜 𝓡 code.env .C) (tables 𝓤 H 𝓜 𝓡 code.env .Λ) fm
-    (cited 𝓤 H (Ensures g.ended ClosesValue 𝓤 H (𝓖 .A)) 𝓜 𝓡 code.env #g g-def.routine code.calls-capsule·reader·Reader·close (g-thm.met 𝓤 H 𝓜 𝓖 𝓡)) κs qs b o γ h)
+    (cited 𝓤 H (Ensures (valued T.the-type T′.the-laws T′.the-plain P.the-row 0 (alone 0)) ClosesValue 𝓤 H (𝓖 .A)) 𝓜 𝓡 code.env #g g-def.routine code.calls-capsule·reader·Reader·close (g-thm.met 𝓤 H 𝓜 𝓖 𝓡)) κs qs b o γ h)
