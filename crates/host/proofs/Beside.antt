@@ -67,3 +67,10 @@ module _ (n i j k : ℕ) (i-in : AllWithin n (i ∷ [])) (j-in : AllWithin n (j 
       → Typed (mirs (typesAt (buffers .slots) κs)) (flat (typesAt (buffers .slots) κs) vss)
   buffers-fit 𝓤 H A W κs a vss are =
       all-typed 𝓤 H A (typesAt (buffers .slots) κs) (shr-slice-lawful 𝓤 H A W (named i) (lftAt n i i-in κs) u8, (mut-slice-lawful 𝓤 H A W (named j) (lftAt n j j-in κs) u8, (mut-slice-lawful 𝓤 H A W (named k) (lftAt n k k-in κs) u8, tt))) a vss are
+
+-- the slices of a function that has a `&mut` before them, and of one that has not
+abbrev pub three-of-four : Beside 4
+three-of-four = buffers 4 1 2 3 tt tt tt
+
+abbrev pub three : Beside 3
+three = buffers 3 0 1 2 tt tt tt

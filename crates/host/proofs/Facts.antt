@@ -10,16 +10,9 @@ use Rattle.capsule.proofs.reader.FeedAnswer as F
 use Rattle.host.specs.Connections.{SameBeside}
 use Rattle.host.proofs.reader.Connection as O
 use Rattle.host.proofs.reader.Connection.Laws as O′
-use Rattle.host.proofs.Beside.{Beside, alone, buffers}
+use Rattle.host.proofs.Beside.{alone, three-of-four}
 use Rattle.host.proofs.Calling.{Fact}
 use Rattle.host.proofs.InPlace.{placed}
-
--- the slices of a function that has a `&mut` before them, and of one that has not
-abbrev pub three-of-four : Beside 4
-three-of-four = buffers 4 1 2 3 tt tt tt
-
-abbrev pub three : Beside 3
-three = buffers 3 0 1 2 tt tt tt
 
 abbrev pub Closes : Fact (placed T.the-type T′.the-laws T′.the-plain E.the-row 0 (alone 1))
 Closes κs a r e = closing (now (e .0)) r ≡ closeOf (now (a .0))

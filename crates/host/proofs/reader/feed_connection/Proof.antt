@@ -33,9 +33,9 @@ use Rattle.host.proofs.reader.feed_in_place.Met as g-thm
 use Rattle.host.proofs.reader.feed_connection.Key.{name as #f}
 use Rattle.host.proofs.reader.feed_connection.Statement as stated
 use Rattle.host.proofs.reader.feed_connection.Code as code
-use Rattle.host.proofs.Beside.{buffers-fit}
+use Rattle.host.proofs.Beside.{three-of-four, buffers-fit}
 use Rattle.host.proofs.Calling.{Ensures}
-use Rattle.host.proofs.Facts.{Feeds, FeedsIn, three-of-four}
+use Rattle.host.proofs.Facts.{Feeds, FeedsIn}
 use Rattle.host.proofs.InPlace.{placed, EntryInPlace, OwedInPlace, calls-in-place, ends-in-place, meets-in-place}
 use Rattle.host.proofs.Lying.{sv}
 use Rattle.host.proofs.ReaderField.{d, with-reader, lends-reader, reader-back}

@@ -38,10 +38,10 @@ use Rattle.capsule.proofs.reader.Reader.feed.Met as g-thm
 use Rattle.host.proofs.reader.feed_in_place.Key.{name as #f}
 use Rattle.host.proofs.reader.feed_in_place.Statement as stated
 use Rattle.host.proofs.reader.feed_in_place.Code as code
-use Rattle.host.proofs.Beside.{buffers-fit}
+use Rattle.host.proofs.Beside.{three, three-of-four, buffers-fit}
 use Rattle.host.proofs.ByValue.{valued, calls-by-value}
 use Rattle.host.proofs.Calling.{Fact, Ensures}
-use Rattle.host.proofs.Facts.{Feeds, three, three-of-four}
+use Rattle.host.proofs.Facts.{Feeds}
 use Rattle.host.proofs.InPlace.{EntryInPlace, OwedInPlace, ends-in-place, meets-in-place}
 use Rattle.host.proofs.Lending.{opens-struct, closes-struct}
 use Rattle.host.proofs.Lying.{sv}
