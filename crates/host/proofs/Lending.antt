@@ -17,65 +17,67 @@ use denote.Lend.{lends-ref, ref-back}
 use denote.Memory.{mem}
 use denote.Ref.{MutRef, RefT}
 use denote.Steps.{closes, facts, opens, owned}
-use denote.Struct.Declared.{Declared, fields, row, shape}
-use denote.Struct.Laws.{Laws, makes, tells, val, vals}
+use denote.Struct.Declared.{row, shape}
+use denote.Struct.Laws.{tells}
 use denote.Struct.Steps.{spelt}
-use denote.Struct.Struct.{Plains, layout}
+use denote.Struct.Struct.{layout}
+use Rattle.host.proofs.Plain.{PlainStruct, valOf, valsOf, IsOf, makesOf}
 use Rattle.host.proofs.Lying.{cellOf, lies-in, lies-out}
 
-module _ (S : Declared) (L : Laws S) (S-plain : Plains (fields S)) (b o : ℕ) where
-  abbrev pub coded : GName → S .D → Fml
-  coded γ x = fobs γ (row S .coded .code x)
+module _ (S : PlainStruct) where
+  abbrev pub coded : GName → S .type .D → Fml
+  coded γ x = fobs γ (row (S .type) .coded .code x)
 
-  abbrev pub borrowed : Lft → GName → Fml
-  borrowed κ γ = fbor κ (Body (mem (row S)) b o γ)
+  module _ (b o : ℕ) where
+    abbrev pub borrowed : Lft → GName → Fml
+    borrowed κ γ = fbor κ (Body (mem (row (S .type))) b o γ)
 
-  abbrev pub refTo : GName → S .D → RefT (S .D)
-  refTo γ x = record { ptr = (b, o); name = γ; now = x }
+    abbrev pub refTo : GName → S .type .D → RefT (S .type .D)
+    refTo γ x = record { ptr = (b, o); name = γ; now = x }
 
-  -- the reference that is lent for ν, and the lender's part
-  abbrev pub Lent : ℕ → GName → S .D → Fml
-  Lent ν δ x = MutRef (named 0) (ν ∷ []) (row S) .own (refTo δ x) (vptr b o ∷ [])
+    -- the reference that is lent for ν, and the lender's part
+    abbrev pub Lent : ℕ → GName → S .type .D → Fml
+    Lent ν δ x = MutRef (named 0) (ν ∷ []) (row (S .type)) .own (refTo δ x) (vptr b o ∷ [])
 
-  abbrev pub Lender : ℕ → GName → Fml
-  Lender ν δ = flent (ν ∷ []) (Body (mem (row S)) b o δ)
+    abbrev pub Lender : ℕ → GName → Fml
+    Lender ν δ = flent (ν ∷ []) (Body (mem (row (S .type))) b o δ)
 
-  module _ {M : Type 1} {𝓤 : URA M} {H : Heap 𝓤} {A : Atoms 𝓤} {K : Type 0} {W : Given 𝓤 H A} {Γ : List (Item 𝓤)} {G : Goal 𝓤 H} (t : K) (z : Soaks G) where
-    pub opens-struct : {κ : Lft} {q : Share} {γ : GName} (x : S .D)
-        → (Is (row S) x (vals S L x) → Seq K W (‵ (cellOf S L b o x) ∷ ‵ (fobor κ q (Body (mem (row S)) b o γ)) ∷ ‵ (coded γ x) ∷ ‵ (fauth γ (row S .coded .code x)) ∷ Γ) G)
-        → Seq K W (‵ (coded γ x) ∷ ‵ (borrowed κ γ) ∷ ‵ (flft κ q) ∷ Γ) G
-    opens-struct x k =
-        opens t z (row S) {h = x} b o (λ vs. spelt t (row S) (Is (row S)) (shows 𝓤 H A (row S)) (vals S L) (tells S L) fullShare x vs b o $
-        move t (1 ∷ []) $ facts t (row S) (Is (row S)) (shows 𝓤 H A (row S)) x (vals S L x) k)
+    module _ {M : Type 1} {𝓤 : URA M} {H : Heap 𝓤} {A : Atoms 𝓤} {K : Type 0} {W : Given 𝓤 H A} {Γ : List (Item 𝓤)} {G : Goal 𝓤 H} (t : K) (z : Soaks G) where
+      pub opens-struct : {κ : Lft} {q : Share} {γ : GName} (x : S .type .D)
+          → (IsOf S x → Seq K W (‵ (cellOf S b o x) ∷ ‵ (fobor κ q (Body (mem (row (S .type))) b o γ)) ∷ ‵ (coded γ x) ∷ ‵ (fauth γ (row (S .type) .coded .code x)) ∷ Γ) G)
+          → Seq K W (‵ (coded γ x) ∷ ‵ (borrowed κ γ) ∷ ‵ (flft κ q) ∷ Γ) G
+      opens-struct x k =
+          opens t z (row (S .type)) {h = x} b o (λ vs. spelt t (row (S .type)) (Is (row (S .type))) (shows 𝓤 H A (row (S .type))) (valsOf S) (tells (S .type) (S .laws)) fullShare x vs b o $
+          move t (1 ∷ []) $ facts t (row (S .type)) (Is (row (S .type))) (shows 𝓤 H A (row (S .type))) x (valsOf S x) k)
 
-    pub closes-struct : {κ : Lft} {q : Share} {γ : GName} {u v : Gv} (x : S .D) → Is (row S) x (vals S L x)
-        → Step K W (‵ (coded γ x) ∷ ‵ (borrowed κ γ) ∷ ‵ (flft κ q) ∷ Γ) G
-        (‵ (cellOf S L b o x) ∷ ‵ (fobor κ q (Body (mem (row S)) b o γ)) ∷ ‵ (fobs γ u) ∷ ‵ (fauth γ v) ∷ Γ) G
-    closes-struct x is = step (λ s. owned t (row S) (Is (row S)) (makes S S-plain 𝓤 H A) x (vals S L x) is $ move t (1 ∷ 0 ∷ []) $ closes t z (row S) x (vals S L x) b o $ s)
+      pub closes-struct : {κ : Lft} {q : Share} {γ : GName} {u v : Gv} (x : S .type .D) → IsOf S x
+          → Step K W (‵ (coded γ x) ∷ ‵ (borrowed κ γ) ∷ ‵ (flft κ q) ∷ Γ) G
+          (‵ (cellOf S b o x) ∷ ‵ (fobor κ q (Body (mem (row (S .type))) b o γ)) ∷ ‵ (fobs γ u) ∷ ‵ (fauth γ v) ∷ Γ) G
+      closes-struct x is = step (λ s. owned t (row (S .type)) (Is (row (S .type))) (makesOf S 𝓤 H A) x (valsOf S x) is $ move t (1 ∷ 0 ∷ []) $ closes t z (row (S .type)) x (valsOf S x) b o $ s)
 
-    pub lends-struct : (x : S .D) → Is (row S) x (vals S L x)
-        → ((ν : ℕ) (δ : GName) → Seq K W (‵ (flft (ν ∷ []) fullShare) ∷ ‵ (Lent ν δ x) ∷ ‵ (Lender ν δ) ∷ Γ) G)
-        → Seq K W (‵ (cellOf S L b o x) ∷ Γ) G
-    lends-struct x is k =
-        owned t (row S) (Is (row S)) (makes S S-plain 𝓤 H A) x (vals S L x) is $ move t (1 ∷ 0 ∷ []) $ use2 W (‵ (mem (row S) .lies x b o)) (lies-in S L 𝓤 H A W b o x) $
-        lft-new t z (λ ν. move t (1 ∷ []) $ use1 W (later (some (λ (δ : GName). ‵ (Lent ν δ x) ⊛ ‵ (Lender ν δ)))) (lends-ref 𝓤 H A W (row S) (named 0) (ν ∷ []) x b o) $
-        await t z $ pick t (λ δ. split t $ move t (2 ∷ []) $ k ν δ))
+      pub lends-struct : (x : S .type .D) → IsOf S x
+          → ((ν : ℕ) (δ : GName) → Seq K W (‵ (flft (ν ∷ []) fullShare) ∷ ‵ (Lent ν δ x) ∷ ‵ (Lender ν δ) ∷ Γ) G)
+          → Seq K W (‵ (cellOf S b o x) ∷ Γ) G
+      lends-struct x is k =
+          owned t (row (S .type)) (Is (row (S .type))) (makesOf S 𝓤 H A) x (valsOf S x) is $ move t (1 ∷ 0 ∷ []) $ use2 W (‵ (mem (row (S .type)) .lies x b o)) (lies-in S 𝓤 H A W b o x) $
+          lft-new t z (λ ν. move t (1 ∷ []) $ use1 W (later (some (λ (δ : GName). ‵ (Lent ν δ x) ⊛ ‵ (Lender ν δ)))) (lends-ref 𝓤 H A W (row (S .type)) (named 0) (ν ∷ []) x b o) $
+          await t z $ pick t (λ δ. split t $ move t (2 ∷ []) $ k ν δ))
 
-    pub struct-back : {ν : ℕ} {δ : GName} (x : S .D)
-        → (Is (row S) x (vals S L x) → Seq K W (‵ (cellOf S L b o x) ∷ Γ) G)
-        → Seq K W (‵ (flft (ν ∷ []) fullShare) ∷ ‵ (Lender ν δ) ∷ ‵ (fres δ (row S .coded .code x)) ∷ Γ) G
-    struct-back {ν} {δ} x k =
-        lft-end t z $ use3 W (later (‵ (mem (row S) .lies x b o))) (ref-back 𝓤 H A W (row S) (ν ∷ []) δ x b o) $ await t z $
-        use1 W (given (Is (row S) x (vals S L x)) (‵ (cellOf S L b o x))) (lies-out S L 𝓤 H A W b o x) $ learn t k
+      pub struct-back : {ν : ℕ} {δ : GName} (x : S .type .D)
+          → (IsOf S x → Seq K W (‵ (cellOf S b o x) ∷ Γ) G)
+          → Seq K W (‵ (flft (ν ∷ []) fullShare) ∷ ‵ (Lender ν δ) ∷ ‵ (fres δ (row (S .type) .coded .code x)) ∷ Γ) G
+      struct-back {ν} {δ} x k =
+          lft-end t z $ use3 W (later (‵ (mem (row (S .type)) .lies x b o))) (ref-back 𝓤 H A W (row (S .type)) (ν ∷ []) δ x b o) $ await t z $
+          use1 W (given (IsOf S x) (‵ (cellOf S b o x))) (lies-out S 𝓤 H A W b o x) $ learn t k
 
 -- a local that holds the struct, lent for a call and back
-module _ (S : Declared) (L : Laws S) (S-plain : Plains (fields S)) (l : ℕ) {M : Type 1} {𝓤 : URA M} {H : Heap 𝓤} {A : Atoms 𝓤} {K : Type 0} {W : Given 𝓤 H A} {Γ : List (Item 𝓤)} {G : Goal 𝓤 H} (t : K) (z : Soaks G) where
-  pub lends-local : (x : S .D) → Is (row S) x (vals S L x)
-      → ((ν : ℕ) (δ : GName) → Seq K W (‵ (flft (ν ∷ []) fullShare) ∷ ‵ (Lent S L S-plain l 0 ν δ x) ∷ ‵ (Lender S L S-plain l 0 ν δ) ∷ Γ) G)
-      → Seq K W (‵ (fat fullShare (layout (shape S)) l 0 (val S L x)) ∷ Γ) G
-  lends-local x is k = use1 W (‵ (cellOf S L l 0 x)) (W .laws .at-raw fullShare (layout (shape S)) l 0 (val S L x)) $ lends-struct S L S-plain l 0 t z x is k
+module _ (S : PlainStruct) (l : ℕ) {M : Type 1} {𝓤 : URA M} {H : Heap 𝓤} {A : Atoms 𝓤} {K : Type 0} {W : Given 𝓤 H A} {Γ : List (Item 𝓤)} {G : Goal 𝓤 H} (t : K) (z : Soaks G) where
+  pub lends-local : (x : S .type .D) → IsOf S x
+      → ((ν : ℕ) (δ : GName) → Seq K W (‵ (flft (ν ∷ []) fullShare) ∷ ‵ (Lent S l 0 ν δ x) ∷ ‵ (Lender S l 0 ν δ) ∷ Γ) G)
+      → Seq K W (‵ (fat fullShare (layout (shape (S .type))) l 0 (valOf S x)) ∷ Γ) G
+  lends-local x is k = use1 W (‵ (cellOf S l 0 x)) (W .laws .at-raw fullShare (layout (shape (S .type))) l 0 (valOf S x)) $ lends-struct S l 0 t z x is k
 
-  pub local-back : {ν : ℕ} {δ : GName} (x : S .D)
-      → (Is (row S) x (vals S L x) → Seq K W (‵ (fat fullShare (layout (shape S)) l 0 (val S L x)) ∷ Γ) G)
-      → Seq K W (‵ (flft (ν ∷ []) fullShare) ∷ ‵ (Lender S L S-plain l 0 ν δ) ∷ ‵ (fres δ (row S .coded .code x)) ∷ Γ) G
-  local-back x k = struct-back S L S-plain l 0 t z x (λ new. use1 W (‵ (fat fullShare (layout (shape S)) l 0 (val S L x))) (W .laws .raw-at fullShare (layout (shape S)) l 0 (val S L x)) $ k new)
+  pub local-back : {ν : ℕ} {δ : GName} (x : S .type .D)
+      → (IsOf S x → Seq K W (‵ (fat fullShare (layout (shape (S .type))) l 0 (valOf S x)) ∷ Γ) G)
+      → Seq K W (‵ (flft (ν ∷ []) fullShare) ∷ ‵ (Lender S l 0 ν δ) ∷ ‵ (fres δ (row (S .type) .coded .code x)) ∷ Γ) G
+  local-back x k = struct-back S l 0 t z x (λ new. use1 W (‵ (fat fullShare (layout (shape (S .type))) l 0 (valOf S x))) (W .laws .raw-at fullShare (layout (shape (S .type))) l 0 (valOf S x)) $ k new)

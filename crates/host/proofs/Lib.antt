@@ -1,4 +1,6 @@
 pub mod Refusals
+pub mod Plain
+pub mod Paired
 pub mod Lying
 pub mod Meeting
 pub mod Calling

@@ -15,13 +15,9 @@ use sound.WpLaws.{FmC}
 use denote.Enum.Laws as EL
 use denote.Triple.Statement.{Triple}
 use denote.Triple.Table.{cited}
-use Rattle.capsule.proofs.reader.Reader as T
-use Rattle.capsule.proofs.reader.Reader.Laws as T′
 use Rattle.capsule.proofs.reader.CloseAnswer as E
 use Rattle.capsule.proofs.reader.CloseAnswer.Laws as E′
 use Rattle.host.specs.declared.reader.Connection.{Connection}
-use Rattle.host.proofs.reader.Connection as O
-use Rattle.host.proofs.reader.Connection.Laws as O′
 use Rattle.host.proofs.reader.close_in_place.Symbol as g-def
 use Rattle.host.proofs.reader.close_in_place.Symbol.{name as #g}
 use Rattle.host.proofs.reader.close_in_place.Met as g-thm
@@ -33,27 +29,28 @@ use Rattle.host.proofs.Calling.{Ensures}
 use Rattle.host.proofs.Facts.{Closes, ClosesIn}
 use Rattle.host.proofs.InPlace.{placed, EntryInPlace, OwedInPlace, calls-in-place, ends-in-place, meets-in-place}
 use Rattle.host.proofs.ReaderField.{d, with-reader, lends-reader, reader-back}
+use Rattle.host.proofs.Plain.{reader-struct, connection-struct}
 
-module _ {M : Type 1} (𝓤 : URA M) (H : Heap 𝓤) (A : Atoms 𝓤) (W : Given 𝓤 H A) (C : Calls 𝓤 H) (Λ : Loops 𝓤 H) (fm : FmC 𝓤 H (W .laws) C) (known : Triple 𝓤 (C #g) (Ensures (placed T.the-type T′.the-laws T′.the-plain E.the-row 0 (alone 1)) Closes 𝓤 H A)) (κs : Lfts 1) (qs : Shares 1) (b o : ℕ) (γ : GName) (h : Connection) where
-  walk : Sq W (EntryInPlace O.the-type O′.the-laws O′.the-plain E.the-row 0 (alone 1) ClosesIn 𝓤 H A W κs qs b o γ h tt)
-      (prop (WpFn 𝓤 H C Λ code.function (vptr b o ∷ []) (OwedInPlace O.the-type O′.the-laws O′.the-plain E.the-row 0 (alone 1) ClosesIn 𝓤 H A W κs qs b o γ h tt)))
+module _ {M : Type 1} (𝓤 : URA M) (H : Heap 𝓤) (A : Atoms 𝓤) (W : Given 𝓤 H A) (C : Calls 𝓤 H) (Λ : Loops 𝓤 H) (fm : FmC 𝓤 H (W .laws) C) (known : Triple 𝓤 (C #g) (Ensures (placed reader-struct E.the-row 0 (alone 1)) Closes 𝓤 H A)) (κs : Lfts 1) (qs : Shares 1) (b o : ℕ) (γ : GName) (h : Connection) where
+  walk : Sq W (EntryInPlace connection-struct E.the-row 0 (alone 1) ClosesIn 𝓤 H A W κs qs b o γ h tt)
+      (prop (WpFn 𝓤 H C Λ code.function (vptr b o ∷ []) (OwedInPlace connection-struct E.the-row 0 (alone 1) ClosesIn 𝓤 H A W κs qs b o γ h tt)))
   walk =
       enter ! C Λ code.function (vptr b o ∷ []) _ $ alloc1 ! (λ l₀. alloc1 ! (λ l₁. alloc1 ! (λ l₂. alloc0 ! $
       params1 ! $ pass1 ! (init ! 2 refl (tt, tt)) $ pass0 ! $ move ! (6 ∷ 7 ∷ 8 ∷ []) $ lends-reader ! tt b o h (λ was ν δ.
       -- [the loan's token; the reference; what is kept; _2 at 3; _1; _0 at 7; the tokens at 9; the others]
       assigns ! (addr ! (from ! (hop ! (look ! 5 refl) (fld ! refl (stop !))))) (from ! (stop !)) (init ! 3 refl (tt, tt)) $
       move ! (0 ∷ 1 ∷ 9 ∷ 10 ∷ []) $
-      calls-in-place T.the-type T′.the-laws T′.the-plain E.the-row 0 (alone 1) ! fm Closes known ν δ b (o + d) (h .reader) tt tt tt tt (and-then ! (load ! (from ! (stop !)) (look ! 2 refl)) (no-more !)) (λ v r h′ ws e is.
+      calls-in-place reader-struct E.the-row 0 (alone 1) ! fm Closes known ν δ b (o + d) (h .reader) tt tt tt tt (and-then ! (load ! (from ! (stop !)) (look ! 2 refl)) (no-more !)) (λ v r h′ ws e is.
       -- [the loan's token; the reader's last value; the tokens; the others; what is kept; _2 at 5; _1; _0 at 9]
       land ! (from ! (stop !)) (init ! 9 refl (EL.lawful E.the-type E′.the-laws 𝓤 H A W tt .typed r _ is .0)) $
       move ! (0 ∷ 1 ∷ 4 ∷ []) $ reader-back ! tt b o h h′ was $
       -- [obs; the borrow; its token; the tokens; the others; _2 at 5; …]
       returns ! (look ! 9 refl) $ forget ! 5 refl $ forget ! 7 refl $ forget ! 9 refl $ move ! (9 ∷ 10 ∷ 7 ∷ 8 ∷ 5 ∷ 6 ∷ []) $ free1 ! $ free1 ! $ free1 ! $ free0 ! $
-      ends-in-place O.the-type O′.the-laws O′.the-plain E.the-row 0 (alone 1) ClosesIn 𝓤 H A W κs qs b o γ h tt ! v r (with-reader h h′) ws (e, record { same-id = refl; same-deadline = refl }) (EL.makes E.the-type E′.the-plain 𝓤 H A) is)))))
+      ends-in-place connection-struct E.the-row 0 (alone 1) ClosesIn 𝓤 H A W κs qs b o γ h tt ! v r (with-reader h h′) ws (e, record { same-id = refl; same-deadline = refl }) (EL.makes E.the-type E′.the-plain 𝓤 H A) is)))))
 
 pub close-connection-spec : {M : Type 1} → stated.statement M
 unfolding code.routine
 close-connection-spec 𝓤 H 𝓜 𝓖 𝓡 =
-    meets-in-place O.the-type O′.the-laws O′.the-plain E.the-row 0 (alone 1) ClosesIn 𝓤 H 𝓜 𝓖 𝓡 code.env #f code.function (code.unfolded 𝓤 H 𝓜 𝓡)
+    meets-in-place connection-struct E.the-row 0 (alone 1) ClosesIn 𝓤 H 𝓜 𝓖 𝓡 code.env #f code.function (code.unfolded 𝓤 H 𝓜 𝓡)
     (λ fm κs qs b o γ h a are. walk 𝓤 H (𝓖 .A) (givenOf 𝓤 H 𝓜 𝓖) (tables 𝓤 H 𝓜 𝓡 code.env .C) (tables 𝓤 H 𝓜 𝓡 code.env .Λ) fm
-    (cited 𝓤 H (Ensures (placed T.the-type T′.the-laws T′.the-plain E.the-row 0 (alone 1)) Closes 𝓤 H (𝓖 .A)) 𝓜 𝓡 code.env #g g-def.routine code.calls-host·reader·close-in-place (g-thm.met 𝓤 H 𝓜 𝓖 𝓡)) κs qs b o γ h)
+    (cited 𝓤 H (Ensures (placed reader-struct E.the-row 0 (alone 1)) Closes 𝓤 H (𝓖 .A)) 𝓜 𝓡 code.env #g g-def.routine code.calls-host·reader·close-in-place (g-thm.met 𝓤 H 𝓜 𝓖 𝓡)) κs qs b o γ h)

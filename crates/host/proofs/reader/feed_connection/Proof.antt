@@ -20,13 +20,9 @@ use denote.Ref.{RefT}
 use denote.Signature.{typesAt}
 use denote.Triple.Statement.{Triple}
 use denote.Triple.Table.{cited}
-use Rattle.capsule.proofs.reader.Reader as T
-use Rattle.capsule.proofs.reader.Reader.Laws as T′
 use Rattle.capsule.proofs.reader.FeedAnswer as E
 use Rattle.capsule.proofs.reader.FeedAnswer.Laws as E′
 use Rattle.host.specs.declared.reader.Connection.{Connection}
-use Rattle.host.proofs.reader.Connection as O
-use Rattle.host.proofs.reader.Connection.Laws as O′
 use Rattle.host.proofs.reader.feed_in_place.Symbol as g-def
 use Rattle.host.proofs.reader.feed_in_place.Symbol.{name as #g}
 use Rattle.host.proofs.reader.feed_in_place.Met as g-thm
@@ -39,11 +35,12 @@ use Rattle.host.proofs.Facts.{Feeds, FeedsIn}
 use Rattle.host.proofs.InPlace.{placed, EntryInPlace, OwedInPlace, calls-in-place, ends-in-place, meets-in-place}
 use Rattle.host.proofs.Lying.{sv}
 use Rattle.host.proofs.ReaderField.{d, with-reader, lends-reader, reader-back}
+use Rattle.host.proofs.Plain.{reader-struct, connection-struct}
 
-module _ {M : Type 1} (𝓤 : URA M) (H : Heap 𝓤) (A : Atoms 𝓤) (W : Given 𝓤 H A) (C : Calls 𝓤 H) (Λ : Loops 𝓤 H) (fm : FmC 𝓤 H (W .laws) C) (known : Triple 𝓤 (C #g) (Ensures (placed T.the-type T′.the-laws T′.the-plain E.the-row 3 three-of-four) Feeds 𝓤 H A)) (κs : Lfts 4) (qs : Shares 4) (b o : ℕ) (γ : GName) (h : Connection) (p s w : RefT (List ℕ)) where
+module _ {M : Type 1} (𝓤 : URA M) (H : Heap 𝓤) (A : Atoms 𝓤) (W : Given 𝓤 H A) (C : Calls 𝓤 H) (Λ : Loops 𝓤 H) (fm : FmC 𝓤 H (W .laws) C) (known : Triple 𝓤 (C #g) (Ensures (placed reader-struct E.the-row 3 three-of-four) Feeds 𝓤 H A)) (κs : Lfts 4) (qs : Shares 4) (b o : ℕ) (γ : GName) (h : Connection) (p s w : RefT (List ℕ)) where
   walk : Typed (mirs (typesAt (three-of-four .slots) κs)) (sv p ∷ sv s ∷ sv w ∷ [])
-      → Sq W (EntryInPlace O.the-type O′.the-laws O′.the-plain E.the-row 3 three-of-four FeedsIn 𝓤 H A W κs qs b o γ h (p, (s, (w, tt))))
-      (prop (WpFn 𝓤 H C Λ code.function (vptr b o ∷ sv p ∷ sv s ∷ sv w ∷ []) (OwedInPlace O.the-type O′.the-laws O′.the-plain E.the-row 3 three-of-four FeedsIn 𝓤 H A W κs qs b o γ h (p, (s, (w, tt))))))
+      → Sq W (EntryInPlace connection-struct E.the-row 3 three-of-four FeedsIn 𝓤 H A W κs qs b o γ h (p, (s, (w, tt))))
+      (prop (WpFn 𝓤 H C Λ code.function (vptr b o ∷ sv p ∷ sv s ∷ sv w ∷ []) (OwedInPlace connection-struct E.the-row 3 three-of-four FeedsIn 𝓤 H A W κs qs b o γ h (p, (s, (w, tt))))))
   walk fit =
       enter ! C Λ code.function (vptr b o ∷ sv p ∷ sv s ∷ sv w ∷ []) _ $
       alloc1 ! (λ l₀. alloc1 ! (λ l₁. alloc1 ! (λ l₂. alloc1 ! (λ l₃. alloc1 ! (λ l₄. alloc1 ! (λ l₅. alloc1 ! (λ l₆. alloc1 ! (λ l₇. alloc1 ! (λ l₈. alloc1 ! (λ l₉. alloc0 ! $
@@ -56,19 +53,19 @@ module _ {M : Type 1} (𝓤 : URA M) (H : Heap 𝓤) (A : Atoms 𝓤) (W : Given
       assigns ! (addr ! (from ! (fld ! refl (hop ! (look-in ! 13 (sub ! 0 refl (whole !))) (stop !))))) (from ! (stop !)) (init ! 5 refl (tt, tt)) $
       assigns ! (agg ! (and-then ! (load ! (from ! (stop !)) (look ! 5 refl)) (and-then ! (load ! (from ! (fld ! refl (stop !))) (look-in ! 13 (sub ! 1 refl (whole !)))) (no-more !)))) (from ! (stop !)) (init ! 3 refl (fit .1 .1 .0)) $
       move ! (0 ∷ 1 ∷ 23 ∷ 24 ∷ []) $
-      calls-in-place T.the-type T′.the-laws T′.the-plain E.the-row 3 three-of-four ! fm Feeds known ν δ b (o + d) (h .reader) (κs .1) (qs .1) (p, (s, (w, tt))) (sv p ∷ [], (sv s ∷ [], (sv w ∷ [], tt)))
+      calls-in-place reader-struct E.the-row 3 three-of-four ! fm Feeds known ν δ b (o + d) (h .reader) (κs .1) (qs .1) (p, (s, (w, tt))) (sv p ∷ [], (sv s ∷ [], (sv w ∷ [], tt)))
       (and-then ! (load ! (from ! (stop !)) (look ! 10 refl)) (and-then ! (load ! (from ! (stop !)) (look ! 16 refl)) (and-then ! (load ! (from ! (stop !)) (look ! 6 refl)) (and-then ! (load ! (from ! (stop !)) (look ! 2 refl)) (no-more !))))) (λ v r h′ ws e is.
       -- [the loan's token; the reader's last value; the tokens; the slices; what is kept; _9 at 5; …; _0 at 23]
       land ! (from ! (stop !)) (init ! 23 refl (EL.lawful E.the-type E′.the-laws 𝓤 H A W tt .typed r _ is .0)) $
       move ! (0 ∷ 1 ∷ 4 ∷ []) $ reader-back ! tt b o h h′ was $
       returns ! (look ! 23 refl) $ forget ! 5 refl $ forget ! 7 refl $ forget ! 9 refl $ forget ! 11 refl $ forget ! 13 refl $ forget ! 15 refl $ forget ! 17 refl $ forget ! 19 refl $ forget ! 21 refl $ forget ! 23 refl $
       move ! (23 ∷ 24 ∷ 21 ∷ 22 ∷ 19 ∷ 20 ∷ 17 ∷ 18 ∷ 15 ∷ 16 ∷ 13 ∷ 14 ∷ 11 ∷ 12 ∷ 9 ∷ 10 ∷ 7 ∷ 8 ∷ 5 ∷ 6 ∷ []) $ free1 ! $ free1 ! $ free1 ! $ free1 ! $ free1 ! $ free1 ! $ free1 ! $ free1 ! $ free1 ! $ free1 ! $ free0 ! $
-      ends-in-place O.the-type O′.the-laws O′.the-plain E.the-row 3 three-of-four FeedsIn 𝓤 H A W κs qs b o γ h (p, (s, (w, tt))) ! v r (with-reader h h′) ws (e, record { same-id = refl; same-deadline = refl }) (EL.makes E.the-type E′.the-plain 𝓤 H A) is))))))))))))
+      ends-in-place connection-struct E.the-row 3 three-of-four FeedsIn 𝓤 H A W κs qs b o γ h (p, (s, (w, tt))) ! v r (with-reader h h′) ws (e, record { same-id = refl; same-deadline = refl }) (EL.makes E.the-type E′.the-plain 𝓤 H A) is))))))))))))
 
 pub feed-connection-spec : {M : Type 1} → stated.statement M
 unfolding code.routine
 feed-connection-spec 𝓤 H 𝓜 𝓖 𝓡 =
-    meets-in-place O.the-type O′.the-laws O′.the-plain E.the-row 3 three-of-four FeedsIn 𝓤 H 𝓜 𝓖 𝓡 code.env #f code.function (code.unfolded 𝓤 H 𝓜 𝓡)
+    meets-in-place connection-struct E.the-row 3 three-of-four FeedsIn 𝓤 H 𝓜 𝓖 𝓡 code.env #f code.function (code.unfolded 𝓤 H 𝓜 𝓡)
     (λ fm κs qs b o γ h a are. walk 𝓤 H (𝓖 .A) (givenOf 𝓤 H 𝓜 𝓖) (tables 𝓤 H 𝓜 𝓡 code.env .C) (tables 𝓤 H 𝓜 𝓡 code.env .Λ) fm
-    (cited 𝓤 H (Ensures (placed T.the-type T′.the-laws T′.the-plain E.the-row 3 three-of-four) Feeds 𝓤 H (𝓖 .A)) 𝓜 𝓡 code.env #g g-def.routine code.calls-host·reader·feed-in-place (g-thm.met 𝓤 H 𝓜 𝓖 𝓡)) κs qs b o γ h (a .0) (a .1 .0) (a .1 .1 .0)
+    (cited 𝓤 H (Ensures (placed reader-struct E.the-row 3 three-of-four) Feeds 𝓤 H (𝓖 .A)) 𝓜 𝓡 code.env #g g-def.routine code.calls-host·reader·feed-in-place (g-thm.met 𝓤 H 𝓜 𝓖 𝓡)) κs qs b o γ h (a .0) (a .1 .0) (a .1 .1 .0)
     (buffers-fit 4 1 2 3 tt tt tt 𝓤 H (𝓖 .A) (givenOf 𝓤 H 𝓜 𝓖) κs a _ are))
