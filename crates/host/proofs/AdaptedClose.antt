@@ -32,8 +32,7 @@ use Rattle.host.proofs.ByValue.{valued, EntryByValue, OwedByValue, ends
 use Rattle.host.proofs.Calling.{Fact, Ensures}
 use Rattle.host.proofs.InPlace.{placed, calls-in-place}
 use Rattle.host.proofs.Lending.{refTo, lends-local, local-back}
-use Rattle.host.proofs.Lying.{spelled}
-use Rattle.host.proofs.Paired.{Paired}
+use Rattle.host.proofs.Paired.{Paired, whole-is}
 use Rattle.host.proofs.Plain.{PlainStruct, IsOf, valOf, makesOf, typedOf}
 
 -- S: the struct; R: the result
@@ -66,12 +65,11 @@ module _ (S : PlainStruct) (R : Paired S E.the-type E′.the-laws) (#g : Name) w
           land ! (from ! (stop !)) (init ! 9 refl (EL.lawful E.the-type E′.the-laws 𝓤 H A W tt .typed r _ is .0)) $ rewrite ! 9 (λ (u : Val). ‵ (fat fullShare E′.mir l₃ 0 u)) (ap only (EL.tells E.the-type E′.the-laws r (v ∷ []) is)) refl $
           move ! (0 ∷ 4 ∷ 1 ∷ []) $ local-back S l₂ ! tt h′ (λ new.
           -- [_2; the tokens; the others; _5 at 3; _4; _3 at 7; what frees _2 at 9; _1 at 10; _0 at 12]
-          let whole-is = R .made-is h′ r new (spelled E.the-type E′.the-laws r v is) in
           assigns ! (of-opd ! (load ! (from ! (stop !)) (look ! 0 refl))) (from ! (stop !)) (init ! 3 refl (typedOf S 𝓤 H A W h′ new .0)) $
-          assigns ! (agg ! (and-then ! (load ! (from ! (stop !)) (look ! 3 refl)) (and-then ! (load ! (from ! (stop !)) (look ! 7 refl)) (no-more !)))) (from ! (stop !)) (init ! 12 refl (LL.lawful (R .whole .type) (R .whole .laws) 𝓤 H A W .typed (R .made h′ r) _ whole-is .0)) $
+          assigns ! (agg ! (and-then ! (load ! (from ! (stop !)) (look ! 3 refl)) (and-then ! (load ! (from ! (stop !)) (look ! 7 refl)) (no-more !)))) (from ! (stop !)) (init ! 12 refl (LL.lawful (R .whole .type) (R .whole .laws) 𝓤 H A W .typed (R .made h′ r) _ (whole-is R h′ r v new is) .0)) $
           returns ! (look ! 12 refl) $ forget ! 0 refl $ forget ! 3 refl $ forget ! 5 refl $ forget ! 7 refl $ forget ! 10 refl $ forget ! 12 refl $
           move ! (12 ∷ 13 ∷ 10 ∷ 11 ∷ 0 ∷ 9 ∷ 7 ∷ 8 ∷ 5 ∷ 6 ∷ 3 ∷ 4 ∷ []) $ free1 ! $ free1 ! $ free1 ! $ free1 ! $ free1 ! $ free1 ! $ free0 ! $
-          ends-by-value S (row (R .whole .type)) 0 (alone 0) Told 𝓤 H A W tt tt h tt ! _ (R .made h′ r) tt (tells (ν ∷ []) (refTo S l₂ 0 δ h) r h′ e) (makesOf (R .whole) 𝓤 H A) whole-is)))))))))
+          ends-by-value S (row (R .whole .type)) 0 (alone 0) Told 𝓤 H A W tt tt h tt ! _ (R .made h′ r) tt (tells (ν ∷ []) (refTo S l₂ 0 δ h) r h′ e) (makesOf (R .whole) 𝓤 H A) (whole-is R h′ r v new is))))))))))
 
     pub adapted :
         {M : Type 1} (𝓤 : URA M) (H : Heap 𝓤) (𝓜 : Model 𝓤 H) (𝓖 : GhostRules 𝓤 H) (𝓡 : Running 𝓤 H 𝓜) (env : Env) (#f : Name)

@@ -37,8 +37,8 @@ use Rattle.host.proofs.ByValue.{valued, EntryByValue, OwedByValue, ends
 use Rattle.host.proofs.Calling.{Fact, Ensures}
 use Rattle.host.proofs.InPlace.{placed, calls-in-place}
 use Rattle.host.proofs.Lending.{refTo, lends-local, local-back}
-use Rattle.host.proofs.Lying.{spelled, sv}
-use Rattle.host.proofs.Paired.{Paired}
+use Rattle.host.proofs.Lying.{sv}
+use Rattle.host.proofs.Paired.{Paired, whole-is}
 use Rattle.host.proofs.Plain.{PlainStruct, IsOf, valOf, makesOf, typedOf}
 
 -- the type of a local that holds a slice
@@ -106,12 +106,11 @@ module _ (S : PlainStruct) (R : Paired S E.the-type E′.the-laws) (#g : Name) w
           land ! (from ! (stop !)) (init ! 17 refl (EL.lawful E.the-type E′.the-laws 𝓤 H A W tt .typed r _ is .0)) $ rewrite ! 17 (λ (u : Val). ‵ (fat fullShare E′.mir l₆ 0 u)) (ap only (EL.tells E.the-type E′.the-laws r (v ∷ []) is)) refl $
           move ! (0 ∷ 4 ∷ 1 ∷ []) $ local-back S l₅ ! tt h′ (λ new.
           -- [_5; the tokens; the slices; _12 at 3; …; _6 at 15; what frees _5 at 17; _4 at 18; …; _0 at 26]
-          let whole-is = R .made-is h′ r new (spelled E.the-type E′.the-laws r v is) in
           assigns ! (of-opd ! (load ! (from ! (stop !)) (look ! 0 refl))) (from ! (stop !)) (init ! 3 refl (typedOf S 𝓤 H A W h′ new .0)) $
-          assigns ! (agg ! (and-then ! (load ! (from ! (stop !)) (look ! 3 refl)) (and-then ! (load ! (from ! (stop !)) (look ! 15 refl)) (no-more !)))) (from ! (stop !)) (init ! 26 refl (LL.lawful (R .whole .type) (R .whole .laws) 𝓤 H A W .typed (R .made h′ r) _ whole-is .0)) $
+          assigns ! (agg ! (and-then ! (load ! (from ! (stop !)) (look ! 3 refl)) (and-then ! (load ! (from ! (stop !)) (look ! 15 refl)) (no-more !)))) (from ! (stop !)) (init ! 26 refl (LL.lawful (R .whole .type) (R .whole .laws) 𝓤 H A W .typed (R .made h′ r) _ (whole-is R h′ r v new is) .0)) $
           returns ! (look ! 26 refl) $ forget ! 0 refl $ forget ! 3 refl $ forget ! 5 refl $ forget ! 7 refl $ forget ! 9 refl $ forget ! 11 refl $ forget ! 13 refl $ forget ! 15 refl $ forget ! 18 refl $ forget ! 20 refl $ forget ! 22 refl $ forget ! 24 refl $ forget ! 26 refl $
           move ! (26 ∷ 27 ∷ 24 ∷ 25 ∷ 22 ∷ 23 ∷ 20 ∷ 21 ∷ 18 ∷ 19 ∷ 0 ∷ 17 ∷ 15 ∷ 16 ∷ 13 ∷ 14 ∷ 11 ∷ 12 ∷ 9 ∷ 10 ∷ 7 ∷ 8 ∷ 5 ∷ 6 ∷ 3 ∷ 4 ∷ []) $ free1 ! $ free1 ! $ free1 ! $ free1 ! $ free1 ! $ free1 ! $ free1 ! $ free1 ! $ free1 ! $ free1 ! $ free1 ! $ free1 ! $ free1 ! $ free0 ! $
-          ends-by-value S (row (R .whole .type)) 3 three Told 𝓤 H A W κs qs h (p, (s, (w, tt))) ! _ (R .made h′ r) ws (tells (ν ∷ []) κs (refTo S l₅ 0 δ h) p s w r h′ (ws .1 .0) (ws .1 .1 .0) e) (makesOf (R .whole) 𝓤 H A) whole-is))))))))))))))))
+          ends-by-value S (row (R .whole .type)) 3 three Told 𝓤 H A W κs qs h (p, (s, (w, tt))) ! _ (R .made h′ r) ws (tells (ν ∷ []) κs (refTo S l₅ 0 δ h) p s w r h′ (ws .1 .0) (ws .1 .1 .0) e) (makesOf (R .whole) 𝓤 H A) (whole-is R h′ r v new is)))))))))))))))))
 
     pub adapted :
         {M : Type 1} (𝓤 : URA M) (H : Heap 𝓤) (𝓜 : Model 𝓤 H) (𝓖 : GhostRules 𝓤 H) (𝓡 : Running 𝓤 H 𝓜) (env : Env) (#f : Name)

@@ -48,14 +48,13 @@ module _ {M : Type 1} (𝓤 : URA M) (H : Heap 𝓤) (A : Atoms 𝓤) (W : Given
       assigns ! (of-opd ! (load ! (from ! (hop ! (look ! 8 refl) (stop !))) (look-raw ! 0 refl))) (from ! (stop !)) (init ! 4 refl (typedOf reader-struct 𝓤 H A W h was .0)) $
       move ! (12 ∷ 13 ∷ []) $ calls-by-value reader-struct P.the-row 0 (alone 0) ! fm ClosesValue known h tt tt tt tt was (and-then ! (load ! (from ! (stop !)) (look ! 5 refl)) (no-more !)) (λ v r last ws e is.
       -- [the tokens; the others; the cell; the open borrow; obs; auth; _3 at 6; _2; _1; _0 at 12]
-      let fields = LL.owed P.the-type P′.the-laws r (v ∷ []) is in
       land ! (from ! (stop !)) (init ! 8 refl (LL.lawful P.the-type P′.the-laws 𝓤 H A W .typed r _ is .0)) $ rewrite ! 8 (λ (u : Val). ‵ (fat fullShare P′.mir l₂ 0 u)) (ap only (LL.tells P.the-type P′.the-laws r (v ∷ []) is)) refl $
-      assigns ! (of-opd ! (load ! (from ! (fld ! refl (stop !))) (look-in ! 8 (sub ! 0 refl (whole !))))) (from ! (hop ! (look ! 10 refl) (stop !))) (store-raw ! 2 refl (typedOf reader-struct 𝓤 H A W (r .reader) (fields .0) .0)) $
-      assigns ! (of-opd ! (load ! (from ! (fld ! refl (stop !))) (look-in ! 8 (sub ! 1 refl (whole !))))) (from ! (stop !)) (init ! 12 refl (EL.lawful E.the-type E′.the-laws 𝓤 H A W tt .typed (r .answer) _ (fields .1 .0) .0)) $
-      move ! (2 ∷ 3 ∷ 4 ∷ 5 ∷ []) $ closes-struct reader-struct b o ! tt (r .reader) (fields .0) $
+      assigns ! (of-opd ! (load ! (from ! (fld ! refl (stop !))) (look-in ! 8 (sub ! 0 refl (whole !))))) (from ! (hop ! (look ! 10 refl) (stop !))) (store-raw ! 2 refl (typedOf reader-struct 𝓤 H A W (r .reader) (LL.owed P.the-type P′.the-laws r _ is .0) .0)) $
+      assigns ! (of-opd ! (load ! (from ! (fld ! refl (stop !))) (look-in ! 8 (sub ! 1 refl (whole !))))) (from ! (stop !)) (init ! 12 refl (EL.lawful E.the-type E′.the-laws 𝓤 H A W tt .typed (r .answer) _ (LL.owed P.the-type P′.the-laws r _ is .1 .0) .0)) $
+      move ! (2 ∷ 3 ∷ 4 ∷ 5 ∷ []) $ closes-struct reader-struct b o ! tt (r .reader) (LL.owed P.the-type P′.the-laws r _ is .0) $
       -- [obs; the borrow; its token; the tokens; the others; _3 at 5; …]
       returns ! (look ! 11 refl) $ forget ! 5 refl $ forget ! 7 refl $ forget ! 9 refl $ forget ! 11 refl $ move ! (11 ∷ 12 ∷ 9 ∷ 10 ∷ 7 ∷ 8 ∷ 5 ∷ 6 ∷ []) $ free1 ! $ free1 ! $ free1 ! $ free1 ! $ free0 ! $
-      ends-in-place reader-struct E.the-row 0 (alone 1) Closes 𝓤 H A W κs qs b o γ h tt ! _ (r .answer) (r .reader) tt e (EL.makes E.the-type E′.the-plain 𝓤 H A) (fields .1 .0)))))))
+      ends-in-place reader-struct E.the-row 0 (alone 1) Closes 𝓤 H A W κs qs b o γ h tt ! _ (r .answer) (r .reader) tt e (EL.makes E.the-type E′.the-plain 𝓤 H A) (LL.owed P.the-type P′.the-laws r _ is .1 .0)))))))
 
 pub close-in-place-spec : {M : Type 1} → stated.statement M
 unfolding code.routine

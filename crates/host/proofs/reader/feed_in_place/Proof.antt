@@ -61,15 +61,14 @@ module _ {M : Type 1} (𝓤 : URA M) (H : Heap 𝓤) (A : Atoms 𝓤) (W : Given
       move ! (26 ∷ 27 ∷ []) $ calls-by-value reader-struct P.the-row 3 three ! fm FeedsValue known h (κs .1) (qs .1) (p, (s, (w, tt))) (sv p ∷ [], (sv s ∷ [], (sv w ∷ [], tt))) was
       (and-then ! (load ! (from ! (stop !)) (look ! 15 refl)) (and-then ! (load ! (from ! (stop !)) (look ! 21 refl)) (and-then ! (load ! (from ! (stop !)) (look ! 9 refl)) (and-then ! (load ! (from ! (stop !)) (look ! 5 refl)) (no-more !))))) (λ v r last ws e is.
       -- [the tokens; the slices; the cell; the open borrow; obs; auth; _10 at 6; …; _6 at 14; …; _1 at 24; _0 at 26]
-      let fields = LL.owed P.the-type P′.the-laws r (v ∷ []) is in
       land ! (from ! (stop !)) (init ! 14 refl (LL.lawful P.the-type P′.the-laws 𝓤 H A W .typed r _ is .0)) $ rewrite ! 14 (λ (u : Val). ‵ (fat fullShare P′.mir l₆ 0 u)) (ap only (LL.tells P.the-type P′.the-laws r (v ∷ []) is)) refl $
-      assigns ! (of-opd ! (load ! (from ! (fld ! refl (stop !))) (look-in ! 14 (sub ! 0 refl (whole !))))) (from ! (hop ! (look ! 24 refl) (stop !))) (store-raw ! 2 refl (typedOf reader-struct 𝓤 H A W (r .reader) (fields .0) .0)) $
-      assigns ! (of-opd ! (load ! (from ! (fld ! refl (stop !))) (look-in ! 14 (sub ! 1 refl (whole !))))) (from ! (stop !)) (init ! 26 refl (EL.lawful E.the-type E′.the-laws 𝓤 H A W tt .typed (r .answer) _ (fields .1 .0) .0)) $
-      move ! (2 ∷ 3 ∷ 4 ∷ 5 ∷ []) $ closes-struct reader-struct b o ! tt (r .reader) (fields .0) $
+      assigns ! (of-opd ! (load ! (from ! (fld ! refl (stop !))) (look-in ! 14 (sub ! 0 refl (whole !))))) (from ! (hop ! (look ! 24 refl) (stop !))) (store-raw ! 2 refl (typedOf reader-struct 𝓤 H A W (r .reader) (LL.owed P.the-type P′.the-laws r _ is .0) .0)) $
+      assigns ! (of-opd ! (load ! (from ! (fld ! refl (stop !))) (look-in ! 14 (sub ! 1 refl (whole !))))) (from ! (stop !)) (init ! 26 refl (EL.lawful E.the-type E′.the-laws 𝓤 H A W tt .typed (r .answer) _ (LL.owed P.the-type P′.the-laws r _ is .1 .0) .0)) $
+      move ! (2 ∷ 3 ∷ 4 ∷ 5 ∷ []) $ closes-struct reader-struct b o ! tt (r .reader) (LL.owed P.the-type P′.the-laws r _ is .0) $
       -- [obs; the borrow; its token; the tokens; the slices; _10 at 5; …]
       returns ! (look ! 25 refl) $ forget ! 5 refl $ forget ! 7 refl $ forget ! 9 refl $ forget ! 11 refl $ forget ! 13 refl $ forget ! 15 refl $ forget ! 17 refl $ forget ! 19 refl $ forget ! 21 refl $ forget ! 23 refl $ forget ! 25 refl $
       move ! (25 ∷ 26 ∷ 23 ∷ 24 ∷ 21 ∷ 22 ∷ 19 ∷ 20 ∷ 17 ∷ 18 ∷ 15 ∷ 16 ∷ 13 ∷ 14 ∷ 11 ∷ 12 ∷ 9 ∷ 10 ∷ 7 ∷ 8 ∷ 5 ∷ 6 ∷ []) $ free1 ! $ free1 ! $ free1 ! $ free1 ! $ free1 ! $ free1 ! $ free1 ! $ free1 ! $ free1 ! $ free1 ! $ free1 ! $ free0 ! $
-      ends-in-place reader-struct E.the-row 3 three-of-four Feeds 𝓤 H A W κs qs b o γ h (p, (s, (w, tt))) ! _ (r .answer) (r .reader) ws e (EL.makes E.the-type E′.the-plain 𝓤 H A) (fields .1 .0))))))))))))))
+      ends-in-place reader-struct E.the-row 3 three-of-four Feeds 𝓤 H A W κs qs b o γ h (p, (s, (w, tt))) ! _ (r .answer) (r .reader) ws e (EL.makes E.the-type E′.the-plain 𝓤 H A) (LL.owed P.the-type P′.the-laws r _ is .1 .0))))))))))))))
 
 pub feed-in-place-spec : {M : Type 1} → stated.statement M
 unfolding code.routine
