@@ -53,4 +53,4 @@ unfolding code.routine
 close-connection-spec 𝓤 H 𝓜 𝓖 𝓡 =
     meets-in-place connection-struct E.the-row 0 (alone 1) ClosesIn 𝓤 H 𝓜 𝓖 𝓡 code.env #f code.function (code.unfolded 𝓤 H 𝓜 𝓡)
     (λ fm κs qs b o γ h a are. walk 𝓤 H (𝓖 .A) (givenOf 𝓤 H 𝓜 𝓖) (tables 𝓤 H 𝓜 𝓡 code.env .C) (tables 𝓤 H 𝓜 𝓡 code.env .Λ) fm
-    (cited 𝓤 H (Ensures (placed reader-struct E.the-row 0 (alone 1)) Closes 𝓤 H (𝓖 .A)) 𝓜 𝓡 code.env #g g-def.routine code.calls-host·reader·close-in-place (g-thm.met 𝓤 H 𝓜 𝓖 𝓡)) κs qs b o γ h)
+    (cited 𝓤 H _ 𝓜 𝓡 code.env #g g-def.routine code.calls-host·reader·close-in-place (g-thm.met 𝓤 H 𝓜 𝓖 𝓡)) κs qs b o γ h)

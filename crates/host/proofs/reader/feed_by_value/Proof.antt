@@ -2,7 +2,6 @@
 use mathlib.Core.Path.{refl}
 use denote.Struct.Laws as LL
 use denote.Triple.Table.{cited}
-use Rattle.capsule.proofs.reader.FeedAnswer as E
 use Rattle.capsule.proofs.reader.Fed as P
 use Rattle.capsule.proofs.reader.Fed.Laws as P′
 use Rattle.host.proofs.reader.feed_in_place.Symbol as g-def
@@ -12,20 +11,13 @@ use Rattle.host.proofs.reader.feed_by_value.Key.{name as #f}
 use Rattle.host.proofs.reader.feed_by_value.Statement as stated
 use Rattle.host.proofs.reader.feed_by_value.Code as code
 use Rattle.host.proofs.AdaptedFeed.{adapted}
-use Rattle.host.proofs.Beside.{three-of-four}
-use Rattle.host.proofs.Calling.{Ensures}
 use Rattle.host.proofs.Facts.{Feeds, FeedsValue}
-use Rattle.host.proofs.InPlace.{placed}
 use Rattle.host.proofs.Plain.{reader-struct}
 
 pub feed-by-value-spec : {M : Type 1} → stated.statement M
 unfolding code.routine
 feed-by-value-spec 𝓤 H 𝓜 𝓖 𝓡 =
     adapted reader-struct
-    (record {
-      whole = record { type = P.the-type; laws = P′.the-laws; plain = P′.the-plain; last = λ x. tt; silent = λ x l. refl };
-      made = λ x a. record { reader = x; answer = a };
-      made-is = λ x a x-is a-is. LL.owes P.the-type P′.the-laws (record { reader = x; answer = a }) (x-is, (a-is, tt));
-    })
+    (record { whole = record { type = P.the-type; laws = P′.the-laws; plain = P′.the-plain; last = λ x. tt; silent = λ x l. refl }; made = λ x a. record { reader = x; answer = a }; made-is = λ x a x-is a-is. LL.owes P.the-type P′.the-laws (record { reader = x; answer = a }) (x-is, (a-is, tt)) })
     #g Feeds FeedsValue (λ κ κs x p s w r y gs ws said. said) 𝓤 H 𝓜 𝓖 𝓡 code.env #f (code.unfolded 𝓤 H 𝓜 𝓡)
-    (cited 𝓤 H (Ensures (placed reader-struct E.the-row 3 three-of-four) Feeds 𝓤 H (𝓖 .A)) 𝓜 𝓡 code.env #g g-def.routine code.calls-host·reader·feed-in-place (g-thm.met 𝓤 H 𝓜 𝓖 𝓡))
+    (cited 𝓤 H _ 𝓜 𝓡 code.env #g g-def.routine code.calls-host·reader·feed-in-place (g-thm.met 𝓤 H 𝓜 𝓖 𝓡))

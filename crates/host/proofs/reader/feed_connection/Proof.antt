@@ -67,5 +67,5 @@ unfolding code.routine
 feed-connection-spec 𝓤 H 𝓜 𝓖 𝓡 =
     meets-in-place connection-struct E.the-row 3 three-of-four FeedsIn 𝓤 H 𝓜 𝓖 𝓡 code.env #f code.function (code.unfolded 𝓤 H 𝓜 𝓡)
     (λ fm κs qs b o γ h a are. walk 𝓤 H (𝓖 .A) (givenOf 𝓤 H 𝓜 𝓖) (tables 𝓤 H 𝓜 𝓡 code.env .C) (tables 𝓤 H 𝓜 𝓡 code.env .Λ) fm
-    (cited 𝓤 H (Ensures (placed reader-struct E.the-row 3 three-of-four) Feeds 𝓤 H (𝓖 .A)) 𝓜 𝓡 code.env #g g-def.routine code.calls-host·reader·feed-in-place (g-thm.met 𝓤 H 𝓜 𝓖 𝓡)) κs qs b o γ h (a .0) (a .1 .0) (a .1 .1 .0)
+    (cited 𝓤 H _ 𝓜 𝓡 code.env #g g-def.routine code.calls-host·reader·feed-in-place (g-thm.met 𝓤 H 𝓜 𝓖 𝓡)) κs qs b o γ h (a .0) (a .1 .0) (a .1 .1 .0)
     (buffers-fit 4 1 2 3 tt tt tt 𝓤 H (𝓖 .A) (givenOf 𝓤 H 𝓜 𝓖) κs a _ are))

@@ -75,5 +75,5 @@ unfolding code.routine
 feed-in-place-spec 𝓤 H 𝓜 𝓖 𝓡 =
     meets-in-place reader-struct E.the-row 3 three-of-four Feeds 𝓤 H 𝓜 𝓖 𝓡 code.env #f code.function (code.unfolded 𝓤 H 𝓜 𝓡)
     (λ fm κs qs b o γ h a are. walk 𝓤 H (𝓖 .A) (givenOf 𝓤 H 𝓜 𝓖) (tables 𝓤 H 𝓜 𝓡 code.env .C) (tables 𝓤 H 𝓜 𝓡 code.env .Λ) fm
-    (cited 𝓤 H (Ensures (valued reader-struct P.the-row 3 three) FeedsValue 𝓤 H (𝓖 .A)) 𝓜 𝓡 code.env #g g-def.routine code.calls-capsule·reader·Reader·feed (g-thm.met 𝓤 H 𝓜 𝓖 𝓡)) κs qs b o γ h (a .0) (a .1 .0) (a .1 .1 .0)
+    (cited 𝓤 H _ 𝓜 𝓡 code.env #g g-def.routine code.calls-capsule·reader·Reader·feed (g-thm.met 𝓤 H 𝓜 𝓖 𝓡)) κs qs b o γ h (a .0) (a .1 .0) (a .1 .1 .0)
     (buffers-fit 4 1 2 3 tt tt tt 𝓤 H (𝓖 .A) (givenOf 𝓤 H 𝓜 𝓖) κs a _ are))
