@@ -1,6 +1,14 @@
 pub mod Refusals
+pub mod Plain
+pub mod Paired
 pub mod Lying
 pub mod Meeting
+pub mod Calling
+pub mod Lending
+pub mod Beside
+pub mod InPlace
+pub mod ByValue
+pub mod Facts
 pub mod AdaptedClose
 pub mod AdaptedFeed
 pub mod ReaderField

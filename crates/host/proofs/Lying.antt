@@ -16,25 +16,26 @@ use denote.Ref.{RefT}
 use denote.Slice.{sliceVal}
 use denote.Steps.{peeks}
 use denote.Struct.Steps.{spelt}
-use denote.Struct.Declared.{Declared, row}
-use denote.Struct.Laws.{Laws, vals, tells}
+use denote.Struct.Declared.{row}
+use denote.Struct.Laws.{tells}
 use denote.Enum.Declared as enum
 use denote.Enum.Laws as EL
+use Rattle.host.proofs.Plain.{PlainStruct, valsOf}
 
-module _ (S : Declared) (L : Laws S) where
-  abbrev pub cellOf : ℕ → ℕ → S .D → Fml
-  cellOf b o x = cellAt fullShare (row S .mir) (vals S L x) b o
+module _ (S : PlainStruct) where
+  abbrev pub cellOf : ℕ → ℕ → S .type .D → Fml
+  cellOf b o x = cellAt fullShare (row (S .type) .mir) (valsOf S x) b o
 
-  module _ {M : Type 1} (𝓤 : URA M) (H : Heap 𝓤) (A : Atoms 𝓤) (W : Given 𝓤 H A) (b o : ℕ) (x : S .D) where
-    pub lies-in : ent 𝓤 (sep 𝓤 (sem 𝓤 H A (cellOf b o x)) (sem 𝓤 H A (row S .own x (vals S L x)))) (sem 𝓤 H A (mem (row S) .lies x b o))
+  module _ {M : Type 1} (𝓤 : URA M) (H : Heap 𝓤) (A : Atoms 𝓤) (W : Given 𝓤 H A) (b o : ℕ) (x : S .type .D) where
+    pub lies-in : ent 𝓤 (sep 𝓤 (sem 𝓤 H A (cellOf b o x)) (sem 𝓤 H A (row (S .type) .own x (valsOf S x)))) (sem 𝓤 H A (mem (row (S .type)) .lies x b o))
     unfolding partOf
-    lies-in = qed W (‵ (cellOf b o x) ∷ ‵ (row S .own x (vals S L x)) ∷ []) ∵ fjoin ! $ fpack ! (List Val) (λ us. fsep (cellAt fullShare (row S .mir) us b o) (row S .own x us)) (vals S L x) $ done !
+    lies-in = qed W (‵ (cellOf b o x) ∷ ‵ (row (S .type) .own x (valsOf S x)) ∷ []) ∵ fjoin ! $ fpack ! (List Val) (λ us. fsep (cellAt fullShare (row (S .type) .mir) us b o) (row (S .type) .own x us)) (valsOf S x) $ done !
 
-    pub lies-out : ent 𝓤 (sem 𝓤 H A (mem (row S) .lies x b o)) (guard 𝓤 (Is (row S) x (vals S L x)) (sem 𝓤 H A (cellOf b o x)))
+    pub lies-out : ent 𝓤 (sem 𝓤 H A (mem (row (S .type)) .lies x b o)) (guard 𝓤 (Is (row (S .type)) x (valsOf S x)) (sem 𝓤 H A (cellOf b o x)))
     unfolding partOf
     lies-out =
-        qed W (‵ (mem (row S) .lies x b o) ∷ []) ∵ fpick ! (λ vs. fsplit ! $ spelt ! (row S) (Is (row S)) (shows 𝓤 H A (row S)) (vals S L) (tells S L) fullShare x vs b o $
-        move ! (1 ∷ []) $ peeks ! (row S) (Is (row S)) (shows 𝓤 H A (row S)) x (vals S L x) (λ is. drop ! $ check ! is $ done !))
+        qed W (‵ (mem (row (S .type)) .lies x b o) ∷ []) ∵ fpick ! (λ vs. fsplit ! $ spelt ! (row (S .type)) (Is (row (S .type))) (shows 𝓤 H A (row (S .type))) (valsOf S) (tells (S .type) (S .laws)) fullShare x vs b o $
+        move ! (1 ∷ []) $ peeks ! (row (S .type)) (Is (row (S .type))) (shows 𝓤 H A (row (S .type))) x (valsOf S x) (λ is. drop ! $ check ! is $ done !))
 
 -- what an enum's machine value is, at the value as it is spelled
 pub spelled : (E : enum.Declared) (L : EL.Laws E) (x : E .D) (v : Val) → Is (enum.row E) x (v ∷ []) → Is (enum.row E) x (EL.val E L x ∷ [])

@@ -1,15 +1,9 @@
 -- `close_connection_by_value`, by the walk of `AdaptedClose`. Assumes nothing.
-use mathlib.Core.Path.{_≡_, refl}
-use Rattle.capsule.specs.Reader.{closing, closeOf}
-use Rattle.host.specs.Connections.{SameBeside}
+use mathlib.Core.Path.{refl}
 use denote.Struct.Laws as LL
-use denote.Triple.Spec.{tripleOf}
 use denote.Triple.Table.{cited}
-use Rattle.host.proofs.reader.Connection as T
-use Rattle.host.proofs.reader.Connection.Laws as T′
 use Rattle.host.proofs.reader.ClosedConnection as P
 use Rattle.host.proofs.reader.ClosedConnection.Laws as P′
-use Rattle.host.proofs.reader.close_connection as g
 use Rattle.host.proofs.reader.close_connection.Symbol as g-def
 use Rattle.host.proofs.reader.close_connection.Symbol.{name as #g}
 use Rattle.host.proofs.reader.close_connection.Met as g-thm
@@ -17,15 +11,13 @@ use Rattle.host.proofs.reader.close_connection_by_value.Key.{name as #f
 use Rattle.host.proofs.reader.close_connection_by_value.Statement as stated
 use Rattle.host.proofs.reader.close_connection_by_value.Code as code
 use Rattle.host.proofs.AdaptedClose.{adapted}
+use Rattle.host.proofs.Facts.{ClosesIn, ClosesInValue}
+use Rattle.host.proofs.Plain.{connection-struct}
 
 pub close-connection-by-value-spec : {M : Type 1} → stated.statement M
 unfolding code.routine
 close-connection-by-value-spec 𝓤 H 𝓜 𝓖 𝓡 =
-    adapted T.the-type T′.the-laws T′.the-plain P.the-type P′.the-laws P′.the-plain #g
-    (λ h a. record { connection = h; answer = a })
-    (λ h a h′. (closing (h′ .reader) a ≡ closeOf (h .reader)) × SameBeside h h′)
-    (λ h r. (closing (r .connection .reader) (r .answer) ≡ closeOf (h .reader)) × SameBeside h (r .connection))
-    (λ h a h′ e. e)
-    (λ h a h-is a-is. LL.owes P.the-type P′.the-laws (record { connection = h; answer = a }) (h-is, (a-is, tt))) (λ x. tt) (λ x f. refl)
-    𝓤 H 𝓜 𝓖 𝓡 code.env #f (code.unfolded 𝓤 H 𝓜 𝓡)
-    (cited 𝓤 H (tripleOf 𝓤 H (𝓖 .A) g.signature (g.spec 𝓤 H (𝓖 .A) (𝓜 .mem) (𝓡 .run))) 𝓜 𝓡 code.env #g g-def.routine code.calls-host·reader·close-connection (g-thm.met 𝓤 H 𝓜 𝓖 𝓡))
+    adapted connection-struct
+    (record { whole = record { type = P.the-type; laws = P′.the-laws; plain = P′.the-plain; last = λ x. tt; silent = λ x l. refl }; made = λ x a. record { connection = x; answer = a }; made-is = λ x a x-is a-is. LL.owes P.the-type P′.the-laws (record { connection = x; answer = a }) (x-is, (a-is, tt)) })
+    #g ClosesIn ClosesInValue (λ κ x r y said. said) 𝓤 H 𝓜 𝓖 𝓡 code.env #f (code.unfolded 𝓤 H 𝓜 𝓡)
+    (cited 𝓤 H _ 𝓜 𝓡 code.env #g g-def.routine code.calls-host·reader·close-connection (g-thm.met 𝓤 H 𝓜 𝓖 𝓡))

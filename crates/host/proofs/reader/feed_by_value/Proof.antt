@@ -1,15 +1,9 @@
 -- `feed_by_value`, by the walk of `AdaptedFeed`. Assumes nothing.
-use mathlib.Core.Path.{_≡_, refl}
-use Rattle.capsule.specs.Calls.{lent}
-use Rattle.capsule.specs.Reader.{feeding, feedOf}
+use mathlib.Core.Path.{refl}
 use denote.Struct.Laws as LL
-use denote.Triple.Spec.{tripleOf}
 use denote.Triple.Table.{cited}
-use Rattle.capsule.proofs.reader.Reader as T
-use Rattle.capsule.proofs.reader.Reader.Laws as T′
 use Rattle.capsule.proofs.reader.Fed as P
 use Rattle.capsule.proofs.reader.Fed.Laws as P′
-use Rattle.host.proofs.reader.feed_in_place as g
 use Rattle.host.proofs.reader.feed_in_place.Symbol as g-def
 use Rattle.host.proofs.reader.feed_in_place.Symbol.{name as #g}
 use Rattle.host.proofs.reader.feed_in_place.Met as g-thm
@@ -17,15 +11,13 @@ use Rattle.host.proofs.reader.feed_by_value.Key.{name as #f}
 use Rattle.host.proofs.reader.feed_by_value.Statement as stated
 use Rattle.host.proofs.reader.feed_by_value.Code as code
 use Rattle.host.proofs.AdaptedFeed.{adapted}
+use Rattle.host.proofs.Facts.{Feeds, FeedsValue}
+use Rattle.host.proofs.Plain.{reader-struct}
 
 pub feed-by-value-spec : {M : Type 1} → stated.statement M
 unfolding code.routine
 feed-by-value-spec 𝓤 H 𝓜 𝓖 𝓡 =
-    adapted T.the-type T′.the-laws T′.the-plain P.the-type P′.the-laws P′.the-plain #g
-    (λ h a. record { reader = h; answer = a })
-    (λ h ps gs ws a h′ gs′ ws′. feeding h′ a (lent gs′ ws′) ≡ feedOf h ps (lent gs ws))
-    (λ h ps gs ws r gs′ ws′. feeding (r .reader) (r .answer) (lent gs′ ws′) ≡ feedOf h ps (lent gs ws))
-    (λ h ps gs ws a h′ gs′ ws′ e. e)
-    (λ h a h-is a-is. LL.owes P.the-type P′.the-laws (record { reader = h; answer = a }) (h-is, (a-is, tt))) (λ x. tt) (λ x f. refl)
-    𝓤 H 𝓜 𝓖 𝓡 code.env #f (code.unfolded 𝓤 H 𝓜 𝓡)
-    (cited 𝓤 H (tripleOf 𝓤 H (𝓖 .A) g.signature (g.spec 𝓤 H (𝓖 .A) (𝓜 .mem) (𝓡 .run))) 𝓜 𝓡 code.env #g g-def.routine code.calls-host·reader·feed-in-place (g-thm.met 𝓤 H 𝓜 𝓖 𝓡))
+    adapted reader-struct
+    (record { whole = record { type = P.the-type; laws = P′.the-laws; plain = P′.the-plain; last = λ x. tt; silent = λ x l. refl }; made = λ x a. record { reader = x; answer = a }; made-is = λ x a x-is a-is. LL.owes P.the-type P′.the-laws (record { reader = x; answer = a }) (x-is, (a-is, tt)) })
+    #g Feeds FeedsValue (λ κ κs x p s w r y gs ws said. said) 𝓤 H 𝓜 𝓖 𝓡 code.env #f (code.unfolded 𝓤 H 𝓜 𝓡)
+    (cited 𝓤 H _ 𝓜 𝓡 code.env #g g-def.routine code.calls-host·reader·feed-in-place (g-thm.met 𝓤 H 𝓜 𝓖 𝓡))

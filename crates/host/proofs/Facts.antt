@@ -1,0 +1,42 @@
+-- What the functions that close and feed ensure: in place, of a reader and of a connection, and by value. Assumes nothing.
+use mathlib.Core.Path.{_≡_}
+use denote.Ref.{now}
+use Rattle.capsule.specs.Calls.{lent}
+use Rattle.capsule.specs.Reader.{feeding, feedOf, closing, closeOf}
+use Rattle.capsule.proofs.reader.CloseAnswer as E
+use Rattle.capsule.proofs.reader.FeedAnswer as F
+use Rattle.capsule.proofs.reader.Closed as C
+use Rattle.capsule.proofs.reader.Fed as D
+use Rattle.host.proofs.reader.ClosedConnection as CC
+use Rattle.host.proofs.reader.FedConnection as DC
+use Rattle.host.specs.Connections.{SameBeside}
+use Rattle.host.proofs.Beside.{alone, three, three-of-four}
+use Rattle.host.proofs.ByValue.{valued}
+use Rattle.host.proofs.Calling.{Fact}
+use Rattle.host.proofs.InPlace.{placed}
+use Rattle.host.proofs.Plain.{reader-struct, connection-struct}
+
+abbrev pub Closes : Fact (placed reader-struct E.the-row 0 (alone 1))
+Closes κs a r e = closing (now (e .0)) r ≡ closeOf (now (a .0))
+
+abbrev pub ClosesIn : Fact (placed connection-struct E.the-row 0 (alone 1))
+ClosesIn κs a r e = (closing (now (e .0) .reader) r ≡ closeOf (now (a .0) .reader)) × SameBeside (now (a .0)) (now (e .0))
+
+abbrev pub Feeds : Fact (placed reader-struct F.the-row 3 three-of-four)
+Feeds κs a r e = feeding (now (e .0)) r (lent (now (e .1 .1 .0)) (now (e .1 .1 .1 .0))) ≡ feedOf (now (a .0)) (now (a .1 .0)) (lent (now (a .1 .1 .0)) (now (a .1 .1 .1 .0)))
+
+abbrev pub FeedsIn : Fact (placed connection-struct F.the-row 3 three-of-four)
+FeedsIn κs a r e = (feeding (now (e .0) .reader) r (lent (now (e .1 .1 .0)) (now (e .1 .1 .1 .0))) ≡ feedOf (now (a .0) .reader) (now (a .1 .0)) (lent (now (a .1 .1 .0)) (now (a .1 .1 .1 .0)))) × SameBeside (now (a .0)) (now (e .0))
+
+-- by value: what `Reader::close`, `Reader::feed` and the four functions by value ensure
+abbrev pub ClosesValue : Fact (valued reader-struct C.the-row 0 (alone 0))
+ClosesValue κs a r e = r ≡ closeOf (a .0)
+
+abbrev pub ClosesInValue : Fact (valued connection-struct CC.the-row 0 (alone 0))
+ClosesInValue κs a r e = (closing (r .connection .reader) (r .answer) ≡ closeOf (a .0 .reader)) × SameBeside (a .0) (r .connection)
+
+abbrev pub FeedsValue : Fact (valued reader-struct D.the-row 3 three)
+FeedsValue κs a r e = feeding (r .reader) (r .answer) (lent (now (e .1 .1 .0)) (now (e .1 .1 .1 .0))) ≡ feedOf (a .0) (now (a .1 .0)) (lent (now (a .1 .1 .0)) (now (a .1 .1 .1 .0)))
+
+abbrev pub FeedsInValue : Fact (valued connection-struct DC.the-row 3 three)
+FeedsInValue κs a r e = (feeding (r .connection .reader) (r .answer) (lent (now (e .1 .1 .0)) (now (e .1 .1 .1 .0))) ≡ feedOf (a .0 .reader) (now (a .1 .0)) (lent (now (a .1 .1 .0)) (now (a .1 .1 .1 .0)))) × SameBeside (a .0) (r .connection)
