@@ -135,7 +135,7 @@ pub record Cases : Type 0 where
       ∷ state Endpoint 1200 true (InValue 5 8 3) true
       ∷ [])
       ≡ words 0 1200 0 0 1 0x40 0 0 ∷ words 1 1200 0 1 5 1 0x40 0 ∷ words 0 1200 1 2 5 8 3 1 ∷ []
-  -- a role, a draft setting, a mark and a phase that are none; a word that is not used; a part that no byte counts
+  -- a role, a draft setting, a finished mark and a phase that are none; a word that is not used; a count of bytes above 255
   pub other-words :
       map readerIn
       (words 2 0 0 0 0 0 0 0
