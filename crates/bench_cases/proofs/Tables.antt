@@ -35,8 +35,8 @@ unfolding outcomeOf parts cut front capsuleAt readVarint sizeOf valueOf num numF
 all-starred = (refl, (refl, (refl, (refl, (refl, (refl, (refl, (refl, (refl, (refl, (refl, (refl, (refl, (refl, ((refl, refl), ((refl, refl), ((refl, refl), ((refl, refl), ((refl, refl), ((refl, refl), (headed 63 _ refl, (headed 64 _ refl, (headed 16383 _ refl, (headed 16384 _ refl, tt))))))))))))))))))))))))
 
 on-the-wire : All onTheWire
-unfolding readVarint sizeOf valueOf num numFrom largest encode encodeAs leastWidth bytesOf writeVarint writeAt refuses quarterOf streamOf isRequest largestQuarter
-on-the-wire = (refl, (refl, (refl, (refl, (refl, (refl, (refl, (refl, (refl, (refl, (refl, (refl, (refl, (refl, (refl, (refl, (refl, (refl, (refl, (refl, (refl, (refl, (refl, (refl, (refl, (refl, (refl, tt)))))))))))))))))))))))))))
+unfolding readVarint sizeOf valueOf num numFrom largest encode encodeAs leastWidth bytesOf writeVarint writeAt refuses partialOf heldBytes starts isPartial takenOf takeVarint quarterOf streamOf isRequest largestQuarter
+on-the-wire = (refl, (refl, (refl, (refl, (refl, (refl, (refl, (refl, (refl, (refl, (refl, (refl, (refl, (refl, (refl, (refl, (refl, (refl, (refl, (refl, (refl, (refl, (refl, (refl, (refl, (refl, (refl, (refl, (refl, (refl, (refl, (refl, (refl, (refl, (refl, (refl, (refl, (refl, (refl, (refl, (refl, (refl, (refl, (refl, tt))))))))))))))))))))))))))))))))))))))))))))
 
 on-streams : All onStreams
 unfolding outcomeOf parts cut front capsuleAt readVarint sizeOf valueOf num numFrom largest bytesOf partialOf heldBytes starts isPartial takenOf takeVarint kindOf reportBy reportOf reported forwardsBy forwards gathersBy gathers onlyIf fromCapsules fromTail fromParts forwarded onlyDelivered endOf ifDelivered delivered outputVerdict lentVerdict isOpening openOf isMakeablePhase isMakeable verdictOf planValue planHead planLength planType planOf heldOf wrote stored fedBy takeOf feedBy feedOf endAt closeOf

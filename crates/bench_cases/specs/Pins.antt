@@ -17,7 +17,9 @@ use Rattle.wire.specs.Varint.{readVarint}
 use Rattle.wire.specs.Writing.{writing, writeVarint}
 use Rattle.wire.specs.Units.{quarterOf, streamOf}
 use Rattle.wire.specs.declared.partial.Partial.{Partial}
-use Rattle.wire.specs.Partial.{partial}
+use Rattle.wire.specs.declared.partial.Taken.{Taken}
+use Rattle.wire.specs.declared.partial.Taken.the-variants.{Impossible, More, Ends}
+use Rattle.wire.specs.Partial.{partial, takeVarint}
 use Rattle.capsule.specs.declared.opening.Role.{Role}
 use Rattle.capsule.specs.declared.opening.Role.the-variants.{Endpoint, Intermediary}
 use Rattle.capsule.specs.declared.opening.Opening.{Opening}
@@ -52,6 +54,8 @@ pub data Pin : Type 0 where
   -- a stream ID and its quarter, a quarter and its stream ID
   quarters : ℕ → QuarterOf → Pin
   streams : ℕ → StreamOf → Pin
+  -- a part of a varint, and what it comes to by more bytes
+  takes : Partial → List ℕ → Taken → Pin
   -- what a whole stream comes to
   lists : (role : Role) (limit : ℕ) (draft : Bool) (bytes : List ℕ) → Outcome → Pin
   -- opening a reader
@@ -79,6 +83,7 @@ Holds (reads s r) = readVarint s ≡ r
 Holds (writes n out place r after) = writeVarint n out place ≡ writing r after
 Holds (quarters id r) = quarterOf (record { 0 = id }) ≡ r
 Holds (streams q r) = streamOf (record { 0 = q }) ≡ r
+Holds (takes p s r) = takeVarint p s ≡ r
 Holds (lists role limit draft bytes o) = outcomeOf role limit draft bytes ≡ o
 Holds (opens role limit draft r) = openOf role limit draft ≡ r
 Holds (feeds r p b r′ a b′) = feedOf r p b ≡ feeding r′ a b′
@@ -108,6 +113,15 @@ onTheWire =
     ∷ reads (0x40 ∷ 0x25 ∷ []) (Whole 37 2)
     ∷ reads (0x80 ∷ 0 ∷ 0 ∷ 0x25 ∷ 1 ∷ []) (Whole 37 4)
     ∷ reads (0xff ∷ 0xff ∷ 0xff ∷ 0xff ∷ 0xff ∷ 0xff ∷ 0xff ∷ 0xff ∷ []) (Whole (2 ^ 62 - 1) 8)
+    -- RFC 9000, appendix A.1
+    ∷ reads (0xc2 ∷ 0x19 ∷ 0x7c ∷ 0x5e ∷ 0xff ∷ 0x14 ∷ 0xe8 ∷ 0x8c ∷ []) (Whole 151288809941952652 8)
+    ∷ reads (0x9d ∷ 0x7f ∷ 0x3e ∷ 0x7d ∷ []) (Whole 494878333 4)
+    ∷ reads (0x7b ∷ 0xbd ∷ []) (Whole 15293 2)
+    ∷ reads (0x25 ∷ []) (Whole 37 1)
+    -- the borders of four bytes
+    ∷ writes 16384 (replicate 5 0) 1 (Wrote 4) (0 ∷ 0x80 ∷ 0 ∷ 0x40 ∷ 0 ∷ [])
+    ∷ writes (2 ^ 30 - 1) (replicate 5 0) 0 (Wrote 4) (0xbf ∷ 0xff ∷ 0xff ∷ 0xff ∷ 0 ∷ [])
+    ∷ writes (2 ^ 30) (replicate 8 9) 0 (Wrote 8) (0xc0 ∷ 0 ∷ 0 ∷ 0 ∷ 0x40 ∷ 0 ∷ 0 ∷ 0 ∷ [])
     -- the count of bytes written, not the next place
     ∷ writes 64 three 1 (Wrote 2) (7 ∷ 0x40 ∷ 0x40 ∷ [])
     ∷ writes 5 three 2 (Wrote 1) (7 ∷ 8 ∷ 5 ∷ [])
@@ -122,6 +136,17 @@ onTheWire =
     ∷ writes (2 ^ 62) three (2 ^ 64 - 1) (Refused (refusal 6)) three
     ∷ writes (2 ^ 62) (replicate 8 0) 0 (Refused (refusal 6)) (replicate 8 0)
     ∷ writes (2 ^ 62 - 1) (replicate 8 0) 0 (Wrote 8) (replicate 8 0xff)
+    -- a part goes on, ends by the bytes that were missing, or cannot be one
+    ∷ takes (partial 0 0) [] (More (partial 0 0))
+    ∷ takes (partial 1 0x80) (0x01 ∷ 0x02 ∷ []) (More (partial 3 0x800102))
+    ∷ takes (partial 1 0x40) (0x25 ∷ 7 ∷ []) (Ends 1 37)
+    ∷ takes (partial 3 0x800102) (0x03 ∷ []) (Ends 1 0x010203)
+    ∷ takes (partial 0 1) (1 ∷ []) Impossible
+    ∷ takes (partial 1 0x3f) (1 ∷ []) Impossible
+    ∷ takes (partial 2 0x4040) (1 ∷ []) Impossible
+    ∷ takes (partial 2 0x10000) (1 ∷ []) Impossible
+    ∷ quarters 1 quarter.NotRequestStream
+    ∷ quarters 2 quarter.NotRequestStream
     ∷ quarters 3 quarter.NotRequestStream
     ∷ quarters 5 quarter.NotRequestStream
     ∷ quarters (2 ^ 62) quarter.NotRequestStream

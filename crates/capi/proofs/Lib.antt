@@ -6,3 +6,4 @@ pub mod Nonzero
 pub mod ReaderCalls
 pub mod TableCalls
 pub mod ShortWords
+pub mod Cases
