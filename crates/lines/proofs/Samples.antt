@@ -1,9 +1,10 @@
--- Document 01's lines. Assumes nothing.
+-- Document 01's lines, and where a line goes. Assumes nothing.
 use mathlib.Core.Path.{refl}
 use Rattle.lines.specs.Text.{text}
 use Rattle.lines.specs.Decimal.{lastDigit, decimalBy, decimal}
 use Rattle.lines.specs.Lines.{oneNumber, twoNumbers, limitLine, reportLine, endLine}
-use Rattle.lines.specs.Claims.{ListingOfS, OtherLines}
+use Rattle.lines.specs.Writing.{writeAt}
+use Rattle.lines.specs.Claims.{ListingOfS, OtherLines, Placed}
 
 pub listing-of-s : ListingOfS
 unfolding text lastDigit decimalBy decimal oneNumber twoNumbers limitLine reportLine endLine
@@ -11,4 +12,8 @@ listing-of-s = refl
 
 pub other-lines : OtherLines
 unfolding text lastDigit decimalBy decimal oneNumber twoNumbers limitLine reportLine endLine
-other-lines = (refl, refl)
+other-lines = (refl, refl, refl, refl)
+
+pub placed : Placed
+unfolding text writeAt
+placed = (refl, refl, refl)

@@ -3,11 +3,14 @@ use mathlib.Core.Path.{_≡_}
 use Prim.Native.Nat.{ℕ, _≤_, _<_}
 use mathlib.Core.List.{List, [], _∷_, _++_}
 use lib.ListN.{getD}
-use Rattle.capsule.specs.declared.opening.Report.the-variants.{Delivered, Dropped, Skipped}
-use Rattle.capsule.specs.declared.reader.CloseAnswer.the-variants.{Clean, Truncated}
+use Rattle.refusals.specs.Numbers.{refusal}
+use Rattle.capsule.specs.declared.opening.Report.the-variants.{Delivered, Dropped, Skipped, Passed}
+use Rattle.capsule.specs.declared.reader.CloseAnswer.the-variants.{Refused, Clean, Truncated}
+use Rattle.lines.specs.declared.Line.the-variants.{Written, NoRoom}
 use Rattle.lines.specs.Text.{text}
 use Rattle.lines.specs.Lines.{limitLine, reportLine, endLine}
 use Rattle.lines.specs.Decimal.{decimal, value}
+use Rattle.lines.specs.Writing.{writing, writeAt}
 
 -- the digits read back are the number
 abbrev pub ReadBack : Type 0
@@ -24,11 +27,22 @@ DigitsOnly = (n : ℕ) → AllDigits (decimal n)
 abbrev pub NoLeadingZero : Type 0
 NoLeadingZero = (decimal 0 ≡ text "0") × ((n : ℕ) → 0 < n → 48 < getD (decimal n) 0 0)
 
--- document 01's listing of stream S, whole, and its other two lines
+-- document 01's listing of stream S, whole, its other two lines, and the two that it does not have
 abbrev pub ListingOfS : Type 0
 ListingOfS =
     limitLine 1200 ++ reportLine (Delivered 3) ++ reportLine (Skipped 23 0) ++ reportLine (Skipped 64 2) ++ reportLine (Delivered 0) ++ endLine Clean
     ≡ text "limit 1200\ndatagram 3\nskip 23 0\nskip 64 2\ndatagram 0\nend clean\n"
 
 abbrev pub OtherLines : Type 0
-OtherLines = (reportLine (Dropped 1201) ≡ text "drop 1201\n") × (endLine Truncated ≡ text "end truncated\n")
+OtherLines =
+    (reportLine (Dropped 1201) ≡ text "drop 1201\n")
+    × (endLine Truncated ≡ text "end truncated\n")
+    × (reportLine (Passed 23 5) ≡ text "pass 23 5\n")
+    × (endLine (Refused (refusal 2)) ≡ text "end refused 2\n")
+
+-- a line goes to its place, up to the output's end; where it does not fit nothing changes
+abbrev pub Placed : Type 0
+Placed =
+    (writeAt (text "ab") (9 ∷ 9 ∷ 9 ∷ 9 ∷ []) 1 ≡ writing (Written 2) (9 ∷ 97 ∷ 98 ∷ 9 ∷ []))
+    × (writeAt (text "ab") (9 ∷ 9 ∷ 9 ∷ []) 1 ≡ writing (Written 2) (9 ∷ 97 ∷ 98 ∷ []))
+    × (writeAt (text "ab") (9 ∷ 9 ∷ 9 ∷ []) 2 ≡ writing NoRoom (9 ∷ 9 ∷ 9 ∷ []))
