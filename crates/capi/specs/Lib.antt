@@ -8,3 +8,4 @@ pub mod Table
 pub mod Frames
 pub mod Messages
 pub mod Claims
+pub mod Cases

@@ -4,3 +4,4 @@ pub mod Messages
 pub mod Settings
 pub mod Translation
 pub mod Ties
+pub mod Cases

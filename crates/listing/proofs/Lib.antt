@@ -1,3 +1,3 @@
 pub mod Rounds
 pub mod Agreement
-pub mod Pins
+pub mod Cases

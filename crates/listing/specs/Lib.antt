@@ -1,3 +1,4 @@
 pub mod Listing
 pub mod Cycle
 pub mod Claims
+pub mod Cases

@@ -3,3 +3,4 @@ pub mod Tables
 pub mod Rows
 pub mod Search
 pub mod Claims
+pub mod Cases
