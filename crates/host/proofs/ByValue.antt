@@ -28,7 +28,7 @@ use denote.Triple.Statement.{Triple}
 use denote.Triple.Walked.{Stays, fitsOf, goes-dropped, hasOf, stay-dropped}
 use Rattle.host.proofs.Beside.{Beside}
 use Rattle.host.proofs.Plain.{PlainStruct, valOf, valsOf, IsOf, makesOf}
-use Rattle.host.proofs.Calling.{Fact, Ensures, Owed, calls-ensuring, ends-ensuring, meets-ensuring}
+use Rattle.host.proofs.Calling.{Fact, ensuring, Ensures, Owed, calls-ensuring, ends-with, meets}
 
 module _ (S : PlainStruct) (R : RattleType) (n : ℕ) (B : Beside n) where
   abbrev pub valued : Ended
@@ -61,7 +61,7 @@ module _ (S : PlainStruct) (R : RattleType) (n : ℕ) (B : Beside n) where
     others = valss (typesAt (B .slots) κs) (B .spells κs) a
 
     abbrev pub OwedByValue : Val → SProp 𝓤
-    OwedByValue = Owed valued staying Said 𝓤 H A W κs qs tt (x, a) (valsOf S x, others)
+    OwedByValue = Owed valued staying 𝓤 H A W (ensuring valued Said 𝓤) κs qs tt (x, a) (valsOf S x, others) tt
 
     abbrev pub EntryByValue : List (Item 𝓤)
     EntryByValue = raw (toks 𝓤 A n κs qs) ∷ ‵ (owns (typesAt (B .slots) κs) a others) ∷ []
@@ -74,7 +74,7 @@ module _ (S : PlainStruct) (R : RattleType) (n : ℕ) (B : Beside n) where
         → Seq K W (raw (toks 𝓤 A n κs qs) ∷ ‵ (lastsOf κs (B .slots) (B .kept) a ws) ∷ Γ) (prop (OwedByValue v))
     ends-by-value t v r ws said mk is =
         keep t (1 ∷ 0 ∷ []) $ use1 W (given (fitsOf κs (B .slots) (B .kept) (B .stays) a ws) (‵ (hasOf κs (B .slots) (B .kept) (B .stays) a ws others))) (B .passed-on 𝓤 H A W κs a ws others) $ learn t (λ fits.
-        nothing t $ fjoin t $ move t (1 ∷ []) $ ends-ensuring valued staying Said 𝓤 H A W κs qs tt (x, a) (valsOf S x, others) t v r (S .last x, ws) refl (tt, fits) said mk is)
+        nothing t $ fjoin t $ move t (1 ∷ []) $ ends-with valued staying 𝓤 H A W (ensuring valued Said 𝓤) κs qs tt (x, a) (valsOf S x, others) tt t v r (S .last x, ws) refl (tt, fits) refl said mk is)
 
   module _ (Said : Fact valued) {M : Type 1} (𝓤 : URA M) (H : Heap 𝓤) (𝓜 : Model 𝓤 H) (𝓖 : GhostRules 𝓤 H) (𝓡 : Running 𝓤 H 𝓜) (env : Routines) where
     pub meets-by-value :
@@ -87,8 +87,8 @@ module _ (S : PlainStruct) (R : RattleType) (n : ℕ) (B : Beside n) where
         (prop (WpFn 𝓤 H (tables 𝓤 H 𝓜 𝓡 env .C) (tables 𝓤 H 𝓜 𝓡 env .Λ) e (valOf S x ∷ flat (typesAt (B .slots) κs) (others Said 𝓤 H (𝓖 .A) (givenOf 𝓤 H 𝓜 𝓖) κs qs x a)) (OwedByValue Said 𝓤 H (𝓖 .A) (givenOf 𝓤 H 𝓜 𝓖) κs qs x a))))
         → Triple 𝓤 (tables 𝓤 H 𝓜 𝓡 env .C k) (Ensures valued Said 𝓤 H (𝓖 .A))
     meets-by-value k e closed walk =
-        meets-ensuring valued staying Said 𝓤 H 𝓜 𝓖 𝓡 env k e closed (goes-dropped 𝓤 H (𝓖 .A) (givenOf 𝓤 H 𝓜 𝓖) n (plain (λ _. row (S .type))) yes (λ κs. S .silent), B .goes 𝓤 H (𝓖 .A) (givenOf 𝓤 H 𝓜 𝓖))
+        meets valued staying 𝓤 H 𝓜 𝓖 𝓡 (ensuring valued Said 𝓤) env k e closed (goes-dropped 𝓤 H (𝓖 .A) (givenOf 𝓤 H 𝓜 𝓖) n (plain (λ _. row (S .type))) yes (λ κs. S .silent), B .goes 𝓤 H (𝓖 .A) (givenOf 𝓤 H 𝓜 𝓖))
         (λ κs. (valsOf S, B .spells κs)) (λ κs. (tells (S .type) (S .laws), B .tells κs))
-        (λ fm κs qs bounds a are.
+        (λ fm κs qs bounds a g are.
         qed (givenOf 𝓤 H 𝓜 𝓖) (raw (toks 𝓤 (𝓖 .A) n κs qs) ∷ ‵ (owns (row (S .type) ∷ typesAt (B .slots) κs) a (valsOf S (a .0), valss (typesAt (B .slots) κs) (B .spells κs) (a .1))) ∷ []) ∵
         move ! (1 ∷ []) $ fsplit ! $ drop ! $ move ! (1 ∷ []) $ walk fm κs qs (a .0) (a .1) (are .0) (are .1))
