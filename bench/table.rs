@@ -123,12 +123,18 @@ fn time(judges: [Judge; 3], rows: &[StreamRecord], frame: &[u8]) -> [f64; 3] {
     best
 }
 
-fn table(places: usize, used: usize, step: u64) -> Vec<StreamRecord> {
+fn table(places: usize, used: usize, quarter: impl Fn(u64) -> u64) -> Vec<StreamRecord> {
     let mut rows = vec![BLANK; places];
     for (i, r) in rows.iter_mut().enumerate().take(used) {
-        *r = StreamRecord { used: true, quarter: (i as u64 + 3).wrapping_mul(step) & LARGEST_QUARTER, receive: true, send: i % 3 != 0, semantics: true };
+        *r = StreamRecord { used: true, quarter: quarter(i as u64 + 3) & LARGEST_QUARTER, receive: true, send: i % 3 != 0, semantics: true };
     }
     rows
+}
+
+// Numbers that share remainders, as the quarters of long-lived streams do.
+fn at_random(i: u64) -> u64 {
+    let n = (i.wrapping_mul(0x9e37_79b9_7f4a_7c15) ^ 0x94d0_49bb_1331_11eb).wrapping_mul(0xbf58_476d_1ce4_e5b9);
+    (n ^ n >> 31).wrapping_mul(0x94d0_49bb_1331_11eb) >> 20
 }
 
 fn frame_for(quarter: u64) -> Vec<u8> {
@@ -143,7 +149,7 @@ fn compare() {
     for places in [0, 1, 8, 63, 64, 65, 80] {
         for used in [0, 1, places / 2, places] {
             for step in [1, 256, 0x9e37_79b9_7f4a_7c15] {
-                let good = table(places, used.min(places), step);
+                let good = table(places, used.min(places), |i| i.wrapping_mul(step));
                 let mut tables = vec![good.clone()];
                 for i in 0..places.min(8) {
                     let mut t = good.clone();
@@ -179,8 +185,9 @@ fn compare() {
 fn main() {
     compare();
     for (places, used) in [(0, 0), (8, 8), (64, 0), (64, 8), (64, 64)] {
-        for (name, step) in [("in order", 1u64), ("scattered", 0x9e37_79b9_7f4a_7c15)] {
-            let rows = table(places, used, step);
+        let kinds: [(&str, fn(u64) -> u64); 2] = [("in order", |i| i), ("at random", at_random)];
+        for (name, quarter) in kinds {
+            let rows = table(places, used, quarter);
             let frame = frame_for(if used > 0 { rows[used * 3 / 4].quarter } else { 5 });
             let [ours, theirs, pairs] = time([verified, plain, pairwise], &rows, &frame);
             println!("{places} places, {used} used, quarters {name}: verified {ours:.0} ns, plain {theirs:.0} ns, pairwise {pairs:.0} ns; ratio to plain {:.2}, to pairwise {:.2}", ours / theirs, ours / pairs);

@@ -62,14 +62,14 @@ pub(crate) fn searched_from(mark: u8, i: usize, n: usize) -> usize
 pub(crate) fn stands(known: bool, r: StreamRecord, quarter: u64) -> bool
     ensures { λ b. ⌜ b ≡ (known || holds quarter r) ⌝ }
 {
-    if known {
-        return true;
+    let own = r.quarter;
+    if own.0 == quarter {
+        if r.used {
+            return true;
+        }
+        return known;
     }
-    if r.used {
-        let own = r.quarter;
-        return own.0 == quarter;
-    }
-    false
+    known
 }
 
 // With one record more, as far as it makes the table bad; `again` says whether its quarter stands behind it.
