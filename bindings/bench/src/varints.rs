@@ -57,6 +57,28 @@ fn quinn(bytes: &[u8]) -> u64 {
     unsafe { quinn_peer_sum(bytes.as_ptr(), bytes.len()) }
 }
 
+/// quinn-proto's reader behind a call for each number, as ours is.
+#[cfg(quinn)]
+fn quinn_called(bytes: &[u8]) -> u64 {
+    #[repr(C)]
+    struct Read {
+        value: u64,
+        size: usize,
+    }
+    extern "C" {
+        fn quinn_peer_read(bytes: *const u8, length: usize) -> Read;
+    }
+    let (mut sum, mut rest) = (0u64, bytes);
+    loop {
+        let read = unsafe { quinn_peer_read(rest.as_ptr(), rest.len()) };
+        if read.size == 0 {
+            return sum;
+        }
+        sum = sum.wrapping_add(read.value);
+        rest = &rest[read.size..];
+    }
+}
+
 /// A reader of all numbers of a buffer, with its name and the ratio aimed at.
 type Peer = (&'static str, fn(&[u8]) -> u64, Option<f64>);
 
@@ -66,7 +88,9 @@ pub fn rows() -> Vec<Row> {
         #[cfg(nghttp3)]
         ("nghttp3", nghttp3, Some(0.8)),
         #[cfg(quinn)]
-        ("quinn-proto", quinn, Some(0.8)),
+        ("quinn-proto, inlined", quinn, Some(0.8)),
+        #[cfg(quinn)]
+        ("quinn-proto, a call each", quinn_called, Some(0.8)),
     ];
     let mut rows = Vec::new();
     for (name, bounds) in [

@@ -30,6 +30,7 @@ use Rattle.host_table.specs.declared.query.Query.{Query}
 use Rattle.host_table.specs.declared.query.Query.the-variants.{Open, Close, Judge, Send}
 use Rattle.host_table.specs.declared.survey.Survey.{Survey}
 use Rattle.host_table.specs.Surveys.{placeOr, placeAt, surveyFrom, surveyOf, nothingSeen, foundIn, freeIn}
+use Rattle.host_table.specs.Claims.{DecidedRight}
 use Rattle.host_table.specs.Queries.{decidedOf, decidedWith, decidedBy, soughtBy}
 
 -- ---- one call's decision, by what the code found
@@ -102,9 +103,8 @@ over t (Close id side) l found free r = rw (lt-ltb 64 (length t) l)
 over t (Judge a) l found free r = rw (lt-ltb 64 (length t) l)
 over t (Send id settings) l found free r = rw (lt-ltb 64 (length t) l)
 
-pub decides : (t : Table) (query : Query)
-    → decidedBy query (surveyOf (soughtBy query) t) (recordFound t (foundIn (surveyOf (soughtBy query) t))) ≡ decidedOf t query
-decides t query = go (leb (length t) 64) refl
+pub decided-right : DecidedRight
+decided-right t query = go (leb (length t) 64) refl
   where
     s : Survey
     s = surveyOf (soughtBy query) t

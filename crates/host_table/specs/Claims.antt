@@ -1,4 +1,4 @@
--- What holds of the contracts. Each claim is a type here, and is proved in proofs/Refusals.antt under its name in lower case with dashes.
+-- What holds of the contracts. Each claim is a type here, and is proved in proofs/, in Refusals.antt where no other file is named, under its name in lower case with dashes.
 use mathlib.Core.Path.{_≡_}
 use Prim.Native.Nat.{ℕ, _<_}
 use mathlib.Core.Bool.{Bool, true}
@@ -15,10 +15,13 @@ use Rattle.wire.specs.Writing.{writing, refuses}
 use Rattle.streams.specs.declared.record.Side.{Side}
 use Rattle.streams.specs.declared.table.Opening.the-variants as opening
 use Rattle.streams.specs.declared.table.Closing.the-variants as closing
-use Rattle.streams.specs.Tables.{Table, isBad, openingOf, closingOf, tableOpened, tableClosed}
+use Rattle.streams.specs.Tables.{Table, openingOf, closingOf, tableOpened, tableClosed, recordFound}
 use Rattle.datagram.specs.declared.judge.Judged.the-variants as judged
 use Rattle.datagram.specs.Judging.{judgedOf}
 use Rattle.datagram.specs.Sending.{writeCapsule, writeFrame}
+use Rattle.host_table.specs.declared.query.Query.{Query}
+use Rattle.host_table.specs.Surveys.{surveyOf, foundIn}
+use Rattle.host_table.specs.Queries.{soughtBy, decidedBy, decidedOf}
 
 -- a refusal changes no entry of the table: `open_stream`, `close_side`, by what each promises
 abbrev pub RefusedOpenLeaves : Type 0
@@ -53,3 +56,9 @@ TooManyRefused =
 -- no records are a good table with no free place
 abbrev pub NoneIsGood : Type 0
 NoneIsGood = (id : StreamId) (q : Quarter) → quarterOf id ≡ Is q → openingOf [] id ≡ opening.Refused noFreePlace
+
+-- what is decided from a survey of the table is what the table answers (proofs/Deciding.antt)
+abbrev pub DecidedRight : Type 0
+DecidedRight =
+    (t : Table) (query : Query)
+    → decidedBy query (surveyOf (soughtBy query) t) (recordFound t (foundIn (surveyOf (soughtBy query) t))) ≡ decidedOf t query

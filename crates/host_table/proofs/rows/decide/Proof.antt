@@ -82,7 +82,7 @@ use Rattle.host_table.proofs.query.answer.Met as answer-thm
 use Rattle.host.proofs.Meeting.{by-walk}
 use Rattle.host_table.proofs.Calls.{ContractOf, Call, asked, answered, answered-lent, calls-plain}
 use Rattle.host_table.proofs.DecideCall.{mk}
-use Rattle.host_table.proofs.Deciding.{decides}
+use Rattle.host_table.proofs.Deciding.{decided-right}
 use Rattle.host_table.proofs.Elements.{rowsRef, rowsVal, Rows, record-typed}
 use Rattle.host_table.proofs.Home.{lent-out, home}
 use Rattle.host_table.proofs.Zeros.{zeros, zeros-length, zeros-is}
@@ -104,7 +104,7 @@ comes-to : (ys : List StreamRecord) (c : Query) (m : ℕ) (s : Survey) (i : ℕ)
 comes-to ys c m s i z r m-is s-is i-is z-is r-is =
     r-is ∙ ap (decidedBy c s) (z-is ∙ ap (λ (j : ℕ). getD ys j blank) i-is)
     ∙ ap (λ (u : Survey). decidedBy c u (recordFound ys (foundIn u))) (s-is ∙ ap (λ (n : ℕ). surveyOf n ys) m-is)
-    ∙ decides ys c
+    ∙ decided-right ys c
 
 room-256 : (n : ℕ) → n ≡ 256 → Room u8 n
 room-256 n e = (omega (arith, e), omega (arith, e))
