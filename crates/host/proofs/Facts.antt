@@ -1,4 +1,4 @@
--- What the functions that close and feed ensure: in place, of a reader and of a connection, and by value. Assumes nothing.
+-- What the functions that walks call ensure: close and feed, in place, of a reader and of a connection, and by value. Assumes nothing.
 use mathlib.Core.Path.{_≡_}
 use denote.Ref.{now}
 use Rattle.capsule.specs.Calls.{lent}
@@ -7,8 +7,6 @@ use Rattle.capsule.proofs.reader.CloseAnswer as E
 use Rattle.capsule.proofs.reader.FeedAnswer as F
 use Rattle.capsule.proofs.reader.Closed as C
 use Rattle.capsule.proofs.reader.Fed as D
-use Rattle.host.proofs.reader.ClosedConnection as CC
-use Rattle.host.proofs.reader.FedConnection as DC
 use Rattle.host.specs.Connections.{SameBeside}
 use Rattle.host.proofs.Beside.{alone, three, three-of-four}
 use Rattle.host.proofs.ByValue.{valued}
@@ -28,15 +26,9 @@ Feeds κs a r e = feeding (now (e .0)) r (lent (now (e .1 .1 .0)) (now (e .1 .1 
 abbrev pub FeedsIn : Fact (placed connection-struct F.the-row 3 three-of-four)
 FeedsIn κs a r e = (feeding (now (e .0) .reader) r (lent (now (e .1 .1 .0)) (now (e .1 .1 .1 .0))) ≡ feedOf (now (a .0) .reader) (now (a .1 .0)) (lent (now (a .1 .1 .0)) (now (a .1 .1 .1 .0)))) × SameBeside (now (a .0)) (now (e .0))
 
--- by value: what `Reader::close`, `Reader::feed` and the four functions by value ensure
+-- by value: `Reader::close` and `Reader::feed`
 abbrev pub ClosesValue : Fact (valued reader-struct C.the-row 0 (alone 0))
 ClosesValue κs a r e = r ≡ closeOf (a .0)
 
-abbrev pub ClosesInValue : Fact (valued connection-struct CC.the-row 0 (alone 0))
-ClosesInValue κs a r e = (closing (r .connection .reader) (r .answer) ≡ closeOf (a .0 .reader)) × SameBeside (a .0) (r .connection)
-
 abbrev pub FeedsValue : Fact (valued reader-struct D.the-row 3 three)
 FeedsValue κs a r e = feeding (r .reader) (r .answer) (lent (now (e .1 .1 .0)) (now (e .1 .1 .1 .0))) ≡ feedOf (a .0) (now (a .1 .0)) (lent (now (a .1 .1 .0)) (now (a .1 .1 .1 .0)))
-
-abbrev pub FeedsInValue : Fact (valued connection-struct DC.the-row 3 three)
-FeedsInValue κs a r e = (feeding (r .connection .reader) (r .answer) (lent (now (e .1 .1 .0)) (now (e .1 .1 .1 .0))) ≡ feedOf (a .0 .reader) (now (a .1 .0)) (lent (now (a .1 .1 .0)) (now (a .1 .1 .1 .0)))) × SameBeside (a .0) (r .connection)

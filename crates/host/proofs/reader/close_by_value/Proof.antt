@@ -1,5 +1,7 @@
 -- `close_by_value`, by the walk of `AdaptedClose`. Assumes nothing.
 use mathlib.Core.Path.{refl}
+use base.Logic.{emp}
+use contract.Monad.{factI}
 use denote.Struct.Laws as LL
 use denote.Triple.Table.{cited}
 use Rattle.capsule.specs.Reader.{closing}
@@ -9,10 +11,11 @@ use Rattle.host.proofs.reader.close_in_place.Symbol as g-def
 use Rattle.host.proofs.reader.close_in_place.Symbol.{name as #g}
 use Rattle.host.proofs.reader.close_in_place.Met as g-thm
 use Rattle.host.proofs.reader.close_by_value.Key.{name as #f}
+use Rattle.host.proofs.reader.close_by_value as f
 use Rattle.host.proofs.reader.close_by_value.Statement as stated
 use Rattle.host.proofs.reader.close_by_value.Code as code
 use Rattle.host.proofs.AdaptedClose.{adapted}
-use Rattle.host.proofs.Facts.{Closes, ClosesValue}
+use Rattle.host.proofs.Facts.{Closes}
 use Rattle.host.proofs.Plain.{reader-struct}
 
 pub close-by-value-spec : {M : Type 1} → stated.statement M
@@ -20,5 +23,5 @@ unfolding code.routine
 close-by-value-spec 𝓤 H 𝓜 𝓖 𝓡 =
     adapted reader-struct
     (record { whole = record { type = P.the-type; laws = P′.the-laws; plain = P′.the-plain; last = λ x. tt; silent = λ x l. refl }; made = closing; made-is = λ x a x-is a-is. LL.owes P.the-type P′.the-laws (closing x a) (x-is, (a-is, tt)) })
-    #g Closes ClosesValue (λ κ x r y said. said) 𝓤 H 𝓜 𝓖 𝓡 code.env #f (code.unfolded 𝓤 H 𝓜 𝓡)
+    #g Closes 𝓤 H 𝓜 𝓖 𝓡 (f.clauses 𝓤 H (𝓖 .A) (𝓜 .mem) (𝓡 .run)) (λ κ x r y g said. factI 𝓤 _ (emp 𝓤) said) code.env #f (code.unfolded 𝓤 H 𝓜 𝓡)
     (cited 𝓤 H _ 𝓜 𝓡 code.env #g g-def.routine code.calls-host·reader·close-in-place (g-thm.met 𝓤 H 𝓜 𝓖 𝓡))

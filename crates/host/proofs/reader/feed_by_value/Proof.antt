@@ -1,5 +1,7 @@
 -- `feed_by_value`, by the walk of `AdaptedFeed`. Assumes nothing.
 use mathlib.Core.Path.{refl}
+use base.Logic.{emp}
+use contract.Monad.{factI}
 use denote.Struct.Laws as LL
 use denote.Triple.Table.{cited}
 use Rattle.capsule.proofs.reader.Fed as P
@@ -8,10 +10,11 @@ use Rattle.host.proofs.reader.feed_in_place.Symbol as g-def
 use Rattle.host.proofs.reader.feed_in_place.Symbol.{name as #g}
 use Rattle.host.proofs.reader.feed_in_place.Met as g-thm
 use Rattle.host.proofs.reader.feed_by_value.Key.{name as #f}
+use Rattle.host.proofs.reader.feed_by_value as f
 use Rattle.host.proofs.reader.feed_by_value.Statement as stated
 use Rattle.host.proofs.reader.feed_by_value.Code as code
 use Rattle.host.proofs.AdaptedFeed.{adapted}
-use Rattle.host.proofs.Facts.{Feeds, FeedsValue}
+use Rattle.host.proofs.Facts.{Feeds}
 use Rattle.host.proofs.Plain.{reader-struct}
 
 pub feed-by-value-spec : {M : Type 1} → stated.statement M
@@ -19,5 +22,5 @@ unfolding code.routine
 feed-by-value-spec 𝓤 H 𝓜 𝓖 𝓡 =
     adapted reader-struct
     (record { whole = record { type = P.the-type; laws = P′.the-laws; plain = P′.the-plain; last = λ x. tt; silent = λ x l. refl }; made = λ x a. record { reader = x; answer = a }; made-is = λ x a x-is a-is. LL.owes P.the-type P′.the-laws (record { reader = x; answer = a }) (x-is, (a-is, tt)) })
-    #g Feeds FeedsValue (λ κ κs x p s w r y gs ws said. said) 𝓤 H 𝓜 𝓖 𝓡 code.env #f (code.unfolded 𝓤 H 𝓜 𝓡)
+    #g Feeds 𝓤 H 𝓜 𝓖 𝓡 (f.clauses 𝓤 H (𝓖 .A) (𝓜 .mem) (𝓡 .run)) (λ κ κs x p s w r y gs ws g said. factI 𝓤 _ (emp 𝓤) said) code.env #f (code.unfolded 𝓤 H 𝓜 𝓡)
     (cited 𝓤 H _ 𝓜 𝓡 code.env #g g-def.routine code.calls-host·reader·feed-in-place (g-thm.met 𝓤 H 𝓜 𝓖 𝓡))
