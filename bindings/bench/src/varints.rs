@@ -6,7 +6,8 @@ use independent::Random;
 use crate::measure::{race, Work};
 use crate::Row;
 
-const COUNT: usize = 10_000;
+/// So many that a processor cannot learn the order of their sizes.
+const COUNT: usize = 1_000_000;
 
 /// A buffer of numbers, each below a bound of the list.
 fn buffer(bounds: &[u64]) -> Vec<u8> {

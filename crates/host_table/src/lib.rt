@@ -1,5 +1,5 @@
 // The stream table as a lent row of at most 64 stream records.
 pub mod query;
 pub mod rows;
-pub mod survey;
+mod survey;
 pub mod table;

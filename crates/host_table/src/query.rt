@@ -119,7 +119,7 @@ pub(crate) fn sought(query: Query) -> u64
 }
 
 // What a table answers, by what was found of it and the record that stands at the place found.
-pub fn answer(query: Query, survey: Survey, r: StreamRecord) -> Decided
+pub(crate) fn answer(query: Query, survey: Survey, r: StreamRecord) -> Decided
     ensures { λ d. ⌜ d ≡ decidedBy query survey r ⌝ }
 {
     let bad = survey.bad;

@@ -141,21 +141,21 @@ fn at(place: usize, n: usize) -> Found
 }
 
 // Where the quarter stands.
-pub fn found_in(survey: Survey) -> Found
+pub(crate) fn found_in(survey: Survey) -> Found
     ensures { λ r. ⌜ r ≡ foundIn survey ⌝ }
 {
     at(survey.found, survey.places)
 }
 
 // The lowest free place.
-pub fn free_in(survey: Survey) -> Found
+pub(crate) fn free_in(survey: Survey) -> Found
     ensures { λ r. ⌜ r ≡ freeIn survey ⌝ }
 {
     at(survey.free, survey.places)
 }
 
 // The place found, and the first one where none is.
-pub fn place(survey: Survey) -> usize
+pub(crate) fn place(survey: Survey) -> usize
     ensures { λ r. ⌜ r ≡ placeOf (foundIn survey) ⌝ }
 {
     table::place_of(found_in(survey))
