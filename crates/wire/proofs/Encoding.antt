@@ -16,8 +16,8 @@ use Rattle.refusals.specs.Numbers.{outputTooShort, numberTooLarge}
 use Rattle.wire.specs.declared.varint.Written.the-variants.{Refused, Wrote}
 use Rattle.wire.specs.Writing.{writing, refuses, writeAt, writeVarint}
 use Rattle.wire.specs.Claims.{EveryFormRead, ReadBack, Shortest}
-use Rattle.wire.proofs.Numbers.{pow-256, length-bytesOf, num-bytesOf, bytesOf-first, bytesOf-bytes}
-use Rattle.wire.proofs.Reading.{split, read-whole, read-less, no-whole-nil, whole-incomplete}
+use Rattle.wire.proofs.Numbers.{pow-256, length-bytesOf, num-bytesOf, bytesOf-first, bytesOf-halves, bytesOf-bytes}
+use Rattle.wire.proofs.Reading.{split, sizeOf-at, read-whole, read-less, no-whole-nil, whole-incomplete}
 
 -- k + 1 bytes whose first one says so
 pub read-bytes : (k n : ℕ) → n < 256 ^ suc k → sizeOf (n / 256 ^ k) ≡ suc k → (r : List ℕ)
@@ -26,6 +26,14 @@ read-bytes k n h z r =
     let l : sizeOf (n / 256 ^ k) ≤ suc (length (bytesOf k n ++ r)) = omega (arith, length-append (bytesOf k n) r, length-bytesOf k n) in
     let isN : num (n / 256 ^ k ∷ bytesOf k n) ≡ n = rw (← (bytesOf-first k n h)) (num-bytesOf (suc k) n h) in
     rw (bytesOf-first k n h, read-whole (n / 256 ^ k) (bytesOf k n ++ r) l, z, take-at (bytesOf k n) r k (length-bytesOf k n), isN)
+
+-- the bytes of a number whose first one says that k + 1 of them are a varint, and b more
+pub read-top : (q k b n v : ℕ) → 2 ^ q ≡ suc k → n / 256 ^ b / 256 ^ k / 64 ≡ q → n / 256 ^ b < 256 ^ suc k
+    → v ≡ n / 256 ^ b % 2 ^ (8 * suc k - 2) → Whole v (suc k) ≡ readVarint (bytesOf (suc k + b) n)
+unfolding valueOf
+read-top q k b n v d e h isV =
+    let z : sizeOf (n / 256 ^ b / 256 ^ k) ≡ suc k = sym (sizeOf-at (n / 256 ^ b / 256 ^ k) q e) ∙ d in
+    rw (isV, bytesOf-halves (suc k) b n) (sym (read-bytes k (n / 256 ^ b) h z (bytesOf b (n % 256 ^ b))))
 
 -- ---- over the size
 

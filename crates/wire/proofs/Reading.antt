@@ -1,5 +1,5 @@
 -- Reading a varint. Assumes nothing.
-use mathlib.Core.Path.{_≡_, refl, ap, _∙_}
+use mathlib.Core.Path.{_≡_, refl, sym, ap, _∙_}
 use Prim.Native.Nat.{ℕ, zero, suc, _-_, _*_, _/_, _%_, _^_, _≤_, _<_}
 use native.Mathlib.Nat.{lt-of-not-le, mod-lt, mod-eq-of-lt}
 use native.Mathlib.Decide.{decLe}
@@ -11,10 +11,10 @@ use lib.Pow.{pow-pos, pow-mono, pow-lt}
 use borrow.Author.Tests.{le-leb, lt-leb}
 use Rattle.wire.specs.declared.varint.Varint.{Varint}
 use Rattle.wire.specs.declared.varint.Varint.the-variants.{Incomplete, Whole}
-use Rattle.wire.specs.Bytes.{Bytes, num}
+use Rattle.wire.specs.Bytes.{Bytes, num, bytesOf}
 use Rattle.wire.specs.Varint.{largest, sizeOf, valueOf, readVarint}
 use Rattle.wire.specs.Claims.{IncompleteExactly, FirstBytesOnly, NeverAboveLargest}
-use Rattle.wire.proofs.Numbers.{number-one}
+use Rattle.wire.proofs.Numbers.{bytes-take, bytesOf-num, num-first, number-one}
 
 -- one order or the other
 pub split {ℓ} : {X : Type ℓ} (a b : ℕ) → (a ≤ b → X) → (b < a → X) → X
@@ -152,6 +152,20 @@ pub front-one : (s : List ℕ) → 0 < length s → getD s 0 0 < 64 → readVari
 front-one s n h =
     let v : num (take 1 s) % 64 ≡ getD s 0 0 = omega (arith, number-one s 0 n) in
     front-whole s 0 n (omega arith) n ∙ rw v
+
+-- the number of the first eight bytes tells the first byte, and the varint
+pub read-eight : (s : List ℕ) (w : ℕ) → Bytes s → 8 ≤ length s → w ≡ num (take 8 s)
+    → (getD s 0 0 ≡ w / 2 ^ 56) × (readVarint (bytesOf 8 w) ≡ readVarint s)
+read-eight [] w h l e = absurd (let z : ⊥ = omega arith in z)
+read-eight (b ∷ s) w h l e =
+    let t : length (take 7 s) ≡ 7 = length-take-le 7 s (omega arith) in
+    let d : Bytes (take 7 s) = bytes-take 7 s (h .1) in
+    let isB : bytesOf 8 (num (b ∷ take 7 s)) ≡ b ∷ take 7 s = rw t at (bytesOf-num (b ∷ take 7 s) (h .0, d)) in
+    let k = sizeOf-le b (h .0) in
+    let same : take (sizeOf b) (b ∷ take 7 s) ≡ take (sizeOf b) (b ∷ s) = take-take (sizeOf b) 8 (b ∷ s) k in (
+      rw e (sym (rw t at (num-first b (take 7 s) d))),
+      rw (e, isB, read-whole b (take 7 s) (omega arith), read-whole b s (omega arith), same),
+    )
 
 -- ---- the claims
 

@@ -1,6 +1,6 @@
 // Variable-length integers (RFC 9000, section 16).
 ghost use mathlib.Core.Path.{_≡_};
-ghost use Prim.Native.Nat.{_+_, _≤_, _<_};
+ghost use Prim.Native.Nat.{_+_, _/_, _^_, _≤_, _<_};
 ghost use lib.ListN.{length, take, drop};
 ghost use lib.Seq.{sets};
 ghost use Rattle.wire.specs.Bytes.{num, bytesOf};
@@ -62,6 +62,23 @@ fn number8(s: &[u8], at: usize) -> u64
     number4(s, at) * 4294967296 + number4(s, at + 4)
 }
 
+// Four or eight bytes, out of the number of the first eight: no branch between the two, which would be a guess.
+fn long_form(first: u8, w: u64) -> Varint
+    requires { ⌜ (first ≡ w / 2 ^ 56) × (128 ≤ first) ⌝ }
+    ensures { λ r. ⌜ r ≡ readVarint (bytesOf 8 w) ⌝ }
+{
+    let value = if first >= 192 {
+        w - 13835058055282163712
+    } else {
+        w / 4294967296 - 2147483648
+    };
+    let size = if first >= 192 { 8usize } else { 4usize };
+    Varint::Whole {
+        value: value,
+        size: size,
+    }
+}
+
 pub fn read_varint(s: &[u8]) -> Varint
     ensures { λ r. ⌜ r ≡ readVarint (now (s .entry)) ⌝ }
 {
@@ -85,6 +102,9 @@ pub fn read_varint(s: &[u8]) -> Varint
             size: 2,
         };
     }
+    if room >= 8 {
+        return long_form(first, number8(s, 0));
+    }
     if first < 192 {
         if room < 4 {
             return Varint::Incomplete;
@@ -94,13 +114,7 @@ pub fn read_varint(s: &[u8]) -> Varint
             size: 4,
         };
     }
-    if room < 8 {
-        return Varint::Incomplete;
-    }
-    Varint::Whole {
-        value: number8(s, 0) % 4611686018427387904,
-        size: 8,
-    }
+    Varint::Incomplete
 }
 
 // How many bytes the shortest varint of a number has, for the numbers that have one: up to 2^62-1.
