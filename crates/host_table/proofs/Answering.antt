@@ -1,8 +1,8 @@
 -- A function that answers over a lent row of records and changes none: a function makes a query of its arguments, `decide` answers it over the row, and a function takes what was decided with the rest of the arguments.
 --     AnsweringEntry       what its walk starts from
 --     asks-and-decides     the first two calls. The rows' local, the query's and the answer's stand behind what the first call is given
---     finishes             the third call, whose result is returned
---     clears               a local is freed
+--     finishing            the signature of the function that is called last (`takes-last`)
+--     ends-answering, meets-answering      where the walk ends, and from a walk to the contract
 -- Assumes nothing.
 use mathlib.Core.Path.{_≡_, refl}
 use Prim.Native.Nat.{ℕ, suc}
@@ -46,12 +46,8 @@ use Rattle.host_table.proofs.query.Decided.Laws as D′
 use Rattle.host_table.proofs.rows.decide.Symbol.{name as #decide}
 use Rattle.host.proofs.Calling.{Fact, Ensures, calls-ensuring, calls-owning}
 use Rattle.host_table.proofs.DecideCall.{rowsAt, DecideSaid, DecideEnded, decides}
-use Rattle.host_table.proofs.Passing.{Param, Fitting, shared, slots, values, passing, OwedPassing, ends-owning, meets-passing}
+use Rattle.host_table.proofs.Passing.{Param, Fitting, shared, taking, slots, values, passing, OwedPassing, ends-owning, meets-passing}
 use Rattle.host_table.proofs.Elements.{rowsTy, at-local}
-
-module _ {M : Type 1} {𝓤 : URA M} {H : Heap 𝓤} {A : Atoms 𝓤} {K : Type 0} {W : Given 𝓤 H A} where
-  pub clears : K → {Γ : List (Item 𝓤)} {τ : Ty} {b : ℕ} {v : Val} {E : Env 𝓤 H} {g : Goal 𝓤 H} → Step K W Γ (frees E g) (‵ (fat fullShare τ b 0 v) ∷ ‵ (fdies τ b) ∷ Γ) (frees ((τ, b) ∷ E) g)
-  clears t = step (λ s. forget t 0 refl $ free1 t $ s)
 
 -- ---- the first two calls
 module _ (n : ℕ) (ss : List (Slot n)) where
@@ -84,33 +80,11 @@ module _ (n : ℕ) (ss : List (Slot n)) where
         land t (at-local t ed (stop t)) (init t 5 refl (EL.lawful D.the-type D′.the-laws 𝓤 H A W tt .typed y _ y-is .0)) $ move t (1 ∷ 2 ∷ []) $ next c v y w ws e e′ y-is))
 
 -- ---- the third call
-module _ (n : ℕ) (ss : List (Slot n)) (r : Slot n) where
-  abbrev pub finishing : Ended
-  finishing = record { signature = record { lifetimes = n; outlives = []; params = plain (λ _. D.the-row) ∷ ss; result = r }; kept = (yes, all yes ss) }
-
-  module _ (Said : Fact finishing) {M : Type 1} {𝓤 : URA M} {H : Heap 𝓤} {A : Atoms 𝓤} {K : Type 0} {W : Given 𝓤 H A} {Γ : List (Item 𝓤)} {E : Env 𝓤 H} {C : Calls 𝓤 H} {Λ : Loops 𝓤 H} {Kf : Val → SProp 𝓤} {i : Item 𝓤} {f : Name} {xs : List Opd} {τ : Ty} {l : ℕ} where
-    pub finishes :
-        K
-        → FmC 𝓤 H (W .laws) C
-        → Triple 𝓤 (C f) (Ensures finishing Said 𝓤 H A)
-        → (κs : Lfts n) (qs : Shares n) (y : Decided) (w : Val) (a : Denots (typesAt ss κs)) (vss : Valss (typesAt ss κs))
-        → mean 𝓤 H A i ≡ toks 𝓤 A n κs qs
-        → Is D.the-row y (w ∷ [])
-        → ((z : r .row κs .Denot) (v : Val) → Is (r .row κs) z (v ∷ []) → T (hasTy τ v) × WT v)
-        → Opds K W (raw (Ensures finishing Said 𝓤 H A .pre ((κs, qs, tt, (y, a), (w ∷ [], vss)), tt)) ∷ ‵ (froom τ l 0) ∷ ‵ (fdies τ l) ∷ Γ) ((τ, l) ∷ E) xs (w ∷ flat (typesAt ss κs) vss)
-        → ((v : Val) (z : r .row κs .Denot) (ws : Fins κs ss (all yes ss) a)
-        → Said κs (y, a) z (atExit finishing κs (y, a) (tt, ws))
-        → Is (r .row κs) z (v ∷ [])
-        → Seq K W (i ∷ ‵ (lastsOf κs ss (all yes ss) a ws) ∷ ‵ (r .row κs .own z (v ∷ [])) ∷ Γ) (frees E (prop (Kf v))))
-        → Seq K W (i ∷ ‵ (owns (typesAt ss κs) a vss) ∷ ‵ (froom τ l 0) ∷ ‵ (fdies τ l) ∷ Γ) (runs C Λ ((τ, l) ∷ E) (seq (call f xs (place 0 [])) return) (atRet ((τ, l) ∷ E) Kf))
-    finishes t fm met κs qs y w a vss same is typed os next =
-        move t (1 ∷ []) $ owned t D.the-row (Is D.the-row) (EL.makes D.the-type D′.the-plain 𝓤 H A) y (w ∷ []) is $ fjoin t $ move t (1 ∷ []) $
-        calls-owning t fm finishing Said met κs qs tt (y, a) (w ∷ [], vss) same os (λ v z ws e z-is.
-        land t (from t (stop t)) (init t 3 refl (typed z v z-is)) $ returns t (look t 3 refl) $ move t (3 ∷ 4 ∷ []) $ clears t $
-        move t (1 ∷ []) $ fsplit t $ drop t $ move t (1 ∷ 0 ∷ []) $ next v z (ws .1) e z-is)
+abbrev pub finishing : (n : ℕ) → List (Slot n) → Slot n → Ended
+finishing = taking D.the-row
 
 -- ---- the whole: rows, and what stands beside them
-abbrev rows : {n : ℕ} → Param (suc n)
+abbrev pub rows : {n : ℕ} → Param (suc n)
 rows = shared 0 tt R.the-row
 
 module _ {n : ℕ} (ps : List (Param (suc n))) (r : Slot (suc n)) where

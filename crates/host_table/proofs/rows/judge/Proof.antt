@@ -15,6 +15,8 @@ use denote.Triple.Statement.{Triple}
 use denote.Triple.Table.{cited}
 use Rattle.datagram.proofs.judge.Judged as E
 use Rattle.datagram.proofs.judge.Judged.Laws as E′
+use Rattle.host_table.proofs.query.Decided as D
+use Rattle.host_table.proofs.query.Decided.Laws as D′
 use Rattle.host_table.proofs.Answers.{judges}
 use Rattle.host_table.proofs.query.arrived.Symbol as ask-def
 use Rattle.host_table.proofs.query.arrived.Symbol.{name as #ask}
@@ -29,9 +31,9 @@ use Rattle.host_table.proofs.rows.judge.Key.{name as #f}
 use Rattle.host_table.proofs.rows.judge.Statement as stated
 use Rattle.host_table.proofs.rows.judge.Code as code
 use Rattle.host.proofs.Calling.{Ensures}
-use Rattle.host_table.proofs.Passing.{slots, values}
+use Rattle.host_table.proofs.Passing.{slots, values, takes-last, clears}
 use Rattle.host_table.proofs.DecideCall.{DecideSaid, DecideEnded}
-use Rattle.host_table.proofs.Answering.{asking, finishing, asks-and-decides, finishes, clears, Answers, ends-answering, meets-answering}
+use Rattle.host_table.proofs.Answering.{asking, finishing, asks-and-decides, Answers, ends-answering, meets-answering}
 use Rattle.host_table.proofs.Facts.{arrival, framed, judged, Arrives, JudgedIn, Judges}
 
 module _ {M : Type 1} (𝓤 : URA M) (H : Heap 𝓤) (A : Atoms 𝓤) (W : Given 𝓤 H A) (C : Calls 𝓤 H) (Λ : Loops 𝓤 H) (fm : FmC 𝓤 H (W .laws) C)
@@ -43,7 +45,7 @@ module _ {M : Type 1} (𝓤 : URA M) (H : Heap 𝓤) (A : Atoms 𝓤) (W : Given
       move ! (16 ∷ 17 ∷ 14 ∷ 15 ∷ 10 ∷ 0 ∷ 2 ∷ []) $ asks-and-decides 1 (slots arrival) Arrives ! fm asks decides (κs .1) (qs .1) a (values κs framed a) refl (κs .0) (qs .0) x refl refl refl
       (and-then ! (load ! (from ! (stop !)) (look ! 12 refl)) (and-then ! (load ! (from ! (stop !)) (look ! 10 refl)) (and-then ! (load ! (from ! (stop !)) (look ! 8 refl)) (no-more !)))) (λ c _ d w _ ec ed is.
       -- [the frame's token; the last values; the rows' token; _1; _6; _5; the rest of _6 and of _5; _4 at 8; _3; _2; the rest of _1; _0 at 15]
-      nothing ! $ nothing ! $ move ! (0 ∷ 1 ∷ 17 ∷ 18 ∷ []) $ finishes 0 [] judged JudgedIn ! fm takes tt tt d w tt tt refl is (λ z u z-is. EL.lawful E.the-type E′.the-laws 𝓤 H A W tt .typed z _ z-is .0) (and-then ! (load ! (from ! (stop !)) (look ! 8 refl)) (no-more !)) (λ v j _ e _.
+      nothing ! $ nothing ! $ move ! (0 ∷ 1 ∷ 17 ∷ 18 ∷ []) $ takes-last D.the-row 0 [] judged JudgedIn ! fm takes (EL.makes D.the-type D′.the-plain 𝓤 H A) tt tt d w tt tt refl is (λ z u z-is. EL.lawful E.the-type E′.the-laws 𝓤 H A W tt .typed z _ z-is .0) (and-then ! (load ! (from ! (stop !)) (look ! 8 refl)) (no-more !)) (λ v j _ e.
       move ! (6 ∷ 17 ∷ 15 ∷ 16 ∷ 13 ∷ 14 ∷ 11 ∷ 12 ∷ 8 ∷ 10 ∷ 7 ∷ 9 ∷ []) $ clears ! $ clears ! $ clears ! $ clears ! $ clears ! $ clears ! $ free0 ! $
       move ! (5 ∷ 3 ∷ 4 ∷ 2 ∷ []) $ ends-answering framed judged Judges 𝓤 H A W κs qs x a ! v j (tt, (tt, (tt, tt))) (e ∙ judges (now x) c d ed (a .0) (a .1 .0) (now (a .1 .1 .0)) ec))))))))))
 

@@ -13,8 +13,11 @@ use denote.Builtin.{u8}
 use denote.Ref.{now}
 use denote.Slice.{ShrSlice, shr-slice-copy, shr-slice-lawful, slice-vals}
 use denote.Steps.{nothing}
+use denote.Enum.Laws as EL
 use denote.Triple.Statement.{Triple}
 use denote.Triple.Table.{cited}
+use Rattle.host_table.proofs.query.Decided as D
+use Rattle.host_table.proofs.query.Decided.Laws as D′
 use Rattle.host_table.proofs.Answers.{parts}
 use Rattle.host_table.proofs.query.arrived.Symbol as ask-def
 use Rattle.host_table.proofs.query.arrived.Symbol.{name as #ask}
@@ -29,9 +32,9 @@ use Rattle.host_table.proofs.rows.payload.Key.{name as #f}
 use Rattle.host_table.proofs.rows.payload.Statement as stated
 use Rattle.host_table.proofs.rows.payload.Code as code
 use Rattle.host.proofs.Calling.{Ensures}
-use Rattle.host_table.proofs.Passing.{bytes, slots, values}
+use Rattle.host_table.proofs.Passing.{bytes, slots, values, takes-last, clears}
 use Rattle.host_table.proofs.DecideCall.{DecideSaid, DecideEnded}
-use Rattle.host_table.proofs.Answering.{asking, finishing, asks-and-decides, finishes, clears, Answers, ends-answering, meets-answering}
+use Rattle.host_table.proofs.Answering.{asking, finishing, asks-and-decides, Answers, ends-answering, meets-answering}
 use Rattle.host_table.proofs.Facts.{arrival, framed, Arrives, PartIn, Payload}
 
 module _ {M : Type 1} (𝓤 : URA M) (H : Heap 𝓤) (A : Atoms 𝓤) (W : Given 𝓤 H A) (C : Calls 𝓤 H) (Λ : Loops 𝓤 H) (fm : FmC 𝓤 H (W .laws) C)
@@ -45,7 +48,7 @@ module _ {M : Type 1} (𝓤 : URA M) (H : Heap 𝓤) (A : Atoms 𝓤) (W : Given
       split ! $ move ! (0 ∷ 2 ∷ []) $ fjoin ! $ move ! (2 ∷ 0 ∷ []) $ fjoin ! $ move ! (2 ∷ 0 ∷ []) $ fjoin ! $
       move ! (18 ∷ 0 ∷ 16 ∷ 17 ∷ 12 ∷ 2 ∷ 4 ∷ []) $ asks-and-decides 1 (slots arrival) Arrives ! fm asks decides (κs .1) (qs .1) a (values κs framed a) refl (κs .0) (qs .0) x refl refl refl (and-then ! (load ! (from ! (stop !)) (look ! 13 refl)) (and-then ! (load ! (from ! (stop !)) (look ! 11 refl)) (and-then ! (load ! (from ! (stop !)) (look ! 9 refl)) (no-more !)))) (λ c _ d w _ ec ed is.
       -- [the frame's token; the last values; the rows' token; _1; _6; _5; the frame; the rest of _6 and of _5; _4 at 9; _3; _2; the rest of _1; _0 at 16]
-      nothing ! $ move ! (7 ∷ 0 ∷ []) $ fjoin ! $ move ! (1 ∷ 0 ∷ 16 ∷ 17 ∷ []) $ finishes 1 (slots (bytes 0 tt ∷ [])) (bytes 0 tt .slot) PartIn ! fm takes (κs .1) (qs .1) d w (a .1 .1) (slice-vals (a .1 .1 .0), tt) refl is (λ z u z-is. shr-slice-lawful 𝓤 H A W (named 1) (κs .1 .0) u8 .typed z _ z-is .0) (and-then ! (load ! (from ! (stop !)) (look ! 7 refl)) (and-then ! (load ! (from ! (stop !)) (look ! 10 refl)) (no-more !))) (λ v r _ e _.
+      nothing ! $ move ! (7 ∷ 0 ∷ []) $ fjoin ! $ move ! (1 ∷ 0 ∷ 16 ∷ 17 ∷ []) $ takes-last D.the-row 1 (slots (bytes 0 tt ∷ [])) (bytes 0 tt .slot) PartIn ! fm takes (EL.makes D.the-type D′.the-plain 𝓤 H A) (κs .1) (qs .1) d w (a .1 .1) (slice-vals (a .1 .1 .0), tt) refl is (λ z u z-is. shr-slice-lawful 𝓤 H A W (named 1) (κs .1 .0) u8 .typed z _ z-is .0) (and-then ! (load ! (from ! (stop !)) (look ! 7 refl)) (and-then ! (load ! (from ! (stop !)) (look ! 10 refl)) (no-more !))) (λ v r _ e.
       move ! (5 ∷ 16 ∷ 14 ∷ 15 ∷ 12 ∷ 13 ∷ 10 ∷ 11 ∷ 7 ∷ 9 ∷ 6 ∷ 8 ∷ []) $ clears ! $ clears ! $ clears ! $ clears ! $ clears ! $ clears ! $ free0 ! $
       move ! (4 ∷ 0 ∷ 3 ∷ 2 ∷ []) $ ends-answering framed (bytes 1 tt .slot) Payload 𝓤 H A W κs qs x a ! v r (tt, (tt, (tt, tt))) (e ∙ parts (now x) c d ed (a .0) (a .1 .0) (now (a .1 .1 .0)) ec))))))))))
 

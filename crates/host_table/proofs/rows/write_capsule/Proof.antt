@@ -16,6 +16,8 @@ use denote.Triple.Statement.{Triple}
 use denote.Triple.Table.{cited}
 use Rattle.wire.proofs.varint.Written as E
 use Rattle.wire.proofs.varint.Written.Laws as E′
+use Rattle.host_table.proofs.query.Decided as D
+use Rattle.host_table.proofs.query.Decided.Laws as D′
 use Rattle.host_table.proofs.Answers.{capsules}
 use Rattle.host_table.proofs.query.sends_capsule.Symbol as ask-def
 use Rattle.host_table.proofs.query.sends_capsule.Symbol.{name as #ask}
@@ -30,9 +32,9 @@ use Rattle.host_table.proofs.rows.write_capsule.Key.{name as #f}
 use Rattle.host_table.proofs.rows.write_capsule.Statement as stated
 use Rattle.host_table.proofs.rows.write_capsule.Code as code
 use Rattle.host.proofs.Calling.{Ensures}
-use Rattle.host_table.proofs.Passing.{identifier, slots, values}
+use Rattle.host_table.proofs.Passing.{identifier, slots, values, takes-last, clears}
 use Rattle.host_table.proofs.DecideCall.{DecideSaid, DecideEnded}
-use Rattle.host_table.proofs.Answering.{asking, finishing, asks-and-decides, finishes, clears, Answers, ends-answering, meets-answering}
+use Rattle.host_table.proofs.Answering.{asking, finishing, asks-and-decides, Answers, ends-answering, meets-answering}
 use Rattle.host_table.proofs.Facts.{written, sending, sent, SendsCapsule, CapsuleIn, WritesCapsule}
 
 module _ {M : Type 1} (𝓤 : URA M) (H : Heap 𝓤) (A : Atoms 𝓤) (W : Given 𝓤 H A) (C : Calls 𝓤 H) (Λ : Loops 𝓤 H) (fm : FmC 𝓤 H (W .laws) C)
@@ -46,9 +48,9 @@ module _ {M : Type 1} (𝓤 : URA M) (H : Heap 𝓤) (A : Atoms 𝓤) (W : Given
       -- [nothing; the ID's; the rows' token; _1; _7; _6; the others; _9 at 7; _8; the rest of _7 and of _6; _5 at 13; …; _0 at 22; the others' tokens]
       assigns ! (addr ! (from ! (fld ! refl (hop ! (look-in ! 15 (sub ! 0 refl (whole !))) (stop !))))) (from ! (stop !)) (init ! 9 refl (tt, tt)) $
       assigns ! (agg ! (and-then ! (load ! (from ! (stop !)) (look ! 9 refl)) (and-then ! (load ! (from ! (fld ! refl (stop !))) (look-in ! 15 (sub ! 1 refl (whole !)))) (no-more !)))) (from ! (stop !)) (init ! 7 refl (fit .1 .1 .1 .0)) $
-      move ! (24 ∷ 6 ∷ 22 ∷ 23 ∷ []) $ finishes 2 (slots sent) written CapsuleIn ! fm takes (κs .1) (qs .1) d w (a .1) (values κs sending (a .1)) refl is (λ z u z-is. EL.lawful E.the-type E′.the-laws 𝓤 H A W tt .typed z _ z-is .0) (and-then ! (load ! (from ! (stop !)) (look ! 8 refl)) (and-then ! (load ! (from ! (stop !)) (look ! 19 refl)) (and-then ! (load ! (from ! (stop !)) (look ! 9 refl)) (and-then ! (load ! (from ! (stop !)) (look ! 15 refl)) (no-more !))))) (λ v r ws e _.
+      move ! (24 ∷ 6 ∷ 22 ∷ 23 ∷ []) $ takes-last D.the-row 2 (slots sent) written CapsuleIn ! fm takes (EL.makes D.the-type D′.the-plain 𝓤 H A) (κs .1) (qs .1) d w (a .1) (values κs sending (a .1)) refl is (λ z u z-is. EL.lawful E.the-type E′.the-laws 𝓤 H A W tt .typed z _ z-is .0) (and-then ! (load ! (from ! (stop !)) (look ! 8 refl)) (and-then ! (load ! (from ! (stop !)) (look ! 19 refl)) (and-then ! (load ! (from ! (stop !)) (look ! 9 refl)) (and-then ! (load ! (from ! (stop !)) (look ! 15 refl)) (no-more !))))) (λ v r ws e.
       move ! (6 ∷ 23 ∷ 21 ∷ 22 ∷ 19 ∷ 20 ∷ 17 ∷ 18 ∷ 15 ∷ 16 ∷ 8 ∷ 14 ∷ 7 ∷ 13 ∷ 11 ∷ 12 ∷ 9 ∷ 10 ∷ []) $ clears ! $ clears ! $ clears ! $ clears ! $ clears ! $ clears ! $ clears ! $ clears ! $ clears ! $ free0 ! $
-      nothing ! $ move ! (0 ∷ 2 ∷ []) $ fjoin ! $ move ! (5 ∷ 1 ∷ 0 ∷ 2 ∷ []) $ ends-answering (identifier ∷ sending) written WritesCapsule 𝓤 H A W κs qs x a ! v r (tt, ws) (e ∙ capsules (now x) c d ed (a .0) (now (a .1 .0)) (now (a .1 .1 .0)) (a .1 .1 .1 .0) ec)))))))))))))
+      nothing ! $ move ! (0 ∷ 2 ∷ []) $ fjoin ! $ move ! (5 ∷ 1 ∷ 0 ∷ 2 ∷ []) $ ends-answering (identifier ∷ sending) written WritesCapsule 𝓤 H A W κs qs x a ! v r (tt, ws .1) (e ∙ capsules (now x) c d ed (a .0) (now (a .1 .0)) (now (a .1 .1 .0)) (a .1 .1 .1 .0) ec)))))))))))))
 
 pub write-capsule-spec : {M : Type 1} → stated.statement M
 unfolding code.routine

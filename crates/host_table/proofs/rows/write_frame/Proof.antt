@@ -16,6 +16,8 @@ use denote.Triple.Statement.{Triple}
 use denote.Triple.Table.{cited}
 use Rattle.wire.proofs.varint.Written as E
 use Rattle.wire.proofs.varint.Written.Laws as E′
+use Rattle.host_table.proofs.query.Decided as D
+use Rattle.host_table.proofs.query.Decided.Laws as D′
 use Rattle.host_table.proofs.Answers.{frames}
 use Rattle.host_table.proofs.query.sends_frame.Symbol as ask-def
 use Rattle.host_table.proofs.query.sends_frame.Symbol.{name as #ask}
@@ -30,9 +32,9 @@ use Rattle.host_table.proofs.rows.write_frame.Key.{name as #f}
 use Rattle.host_table.proofs.rows.write_frame.Statement as stated
 use Rattle.host_table.proofs.rows.write_frame.Code as code
 use Rattle.host.proofs.Calling.{Ensures}
-use Rattle.host_table.proofs.Passing.{word, identifier, slots, values}
+use Rattle.host_table.proofs.Passing.{word, identifier, slots, values, takes-last, clears}
 use Rattle.host_table.proofs.DecideCall.{DecideSaid, DecideEnded}
-use Rattle.host_table.proofs.Answering.{asking, finishing, asks-and-decides, finishes, clears, Answers, ends-answering, meets-answering}
+use Rattle.host_table.proofs.Answering.{asking, finishing, asks-and-decides, Answers, ends-answering, meets-answering}
 use Rattle.host_table.proofs.Facts.{written, sending, sent, SendsFrame, FrameIn, WritesFrame}
 
 module _ {M : Type 1} (𝓤 : URA M) (H : Heap 𝓤) (A : Atoms 𝓤) (W : Given 𝓤 H A) (C : Calls 𝓤 H) (Λ : Loops 𝓤 H) (fm : FmC 𝓤 H (W .laws) C)
@@ -46,9 +48,9 @@ module _ {M : Type 1} (𝓤 : URA M) (H : Heap 𝓤) (A : Atoms 𝓤) (W : Given
       -- [nothing; what was asked with; the rows' token; _1; _10; _9; the others; _12 at 7; _11; the rest of _10 and of _9; _8 at 13; …; _0 at 28; the others' tokens]
       assigns ! (addr ! (from ! (fld ! refl (hop ! (look-in ! 15 (sub ! 0 refl (whole !))) (stop !))))) (from ! (stop !)) (init ! 9 refl (tt, tt)) $
       assigns ! (agg ! (and-then ! (load ! (from ! (stop !)) (look ! 9 refl)) (and-then ! (load ! (from ! (fld ! refl (stop !))) (look-in ! 15 (sub ! 1 refl (whole !)))) (no-more !)))) (from ! (stop !)) (init ! 7 refl (fit .1 .1 .1 .1 .1 .1 .0)) $
-      move ! (30 ∷ 6 ∷ 28 ∷ 29 ∷ []) $ finishes 2 (slots (word ∷ sent)) written FrameIn ! fm takes (κs .1) (qs .1) d w (a .1 .1 .1) (values κs (word ∷ sending) (a .1 .1 .1)) refl is (λ z u z-is. EL.lawful E.the-type E′.the-laws 𝓤 H A W tt .typed z _ z-is .0) (and-then ! (load ! (from ! (stop !)) (look ! 8 refl)) (and-then ! (load ! (from ! (stop !)) (look ! 21 refl)) (and-then ! (load ! (from ! (stop !)) (look ! 19 refl)) (and-then ! (load ! (from ! (stop !)) (look ! 9 refl)) (and-then ! (load ! (from ! (stop !)) (look ! 15 refl)) (no-more !)))))) (λ v r ws e _.
+      move ! (30 ∷ 6 ∷ 28 ∷ 29 ∷ []) $ takes-last D.the-row 2 (slots (word ∷ sent)) written FrameIn ! fm takes (EL.makes D.the-type D′.the-plain 𝓤 H A) (κs .1) (qs .1) d w (a .1 .1 .1) (values κs (word ∷ sending) (a .1 .1 .1)) refl is (λ z u z-is. EL.lawful E.the-type E′.the-laws 𝓤 H A W tt .typed z _ z-is .0) (and-then ! (load ! (from ! (stop !)) (look ! 8 refl)) (and-then ! (load ! (from ! (stop !)) (look ! 21 refl)) (and-then ! (load ! (from ! (stop !)) (look ! 19 refl)) (and-then ! (load ! (from ! (stop !)) (look ! 9 refl)) (and-then ! (load ! (from ! (stop !)) (look ! 15 refl)) (no-more !)))))) (λ v r ws e.
       move ! (6 ∷ 29 ∷ 27 ∷ 28 ∷ 25 ∷ 26 ∷ 23 ∷ 24 ∷ 21 ∷ 22 ∷ 19 ∷ 20 ∷ 17 ∷ 18 ∷ 15 ∷ 16 ∷ 8 ∷ 14 ∷ 7 ∷ 13 ∷ 11 ∷ 12 ∷ 9 ∷ 10 ∷ []) $ clears ! $ clears ! $ clears ! $ clears ! $ clears ! $ clears ! $ clears ! $ clears ! $ clears ! $ clears ! $ clears ! $ clears ! $ free0 ! $
-      nothing ! $ move ! (0 ∷ 2 ∷ []) $ fjoin ! $ nothing ! $ fjoin ! $ nothing ! $ fjoin ! $ move ! (5 ∷ 1 ∷ 0 ∷ 2 ∷ []) $ ends-answering (identifier ∷ word ∷ word ∷ word ∷ sending) written WritesFrame 𝓤 H A W κs qs x a ! v r (tt, (tt, (tt, ws))) (e ∙ frames (now x) c d ed (a .0) (now (a .1 .1 .1 .1 .0)) (now (a .1 .1 .1 .1 .1 .0)) (a .1 .1 .1 .1 .1 .1 .0) (a .1 .0) (a .1 .1 .0) (a .1 .1 .1 .0) ec))))))))))))))))
+      nothing ! $ move ! (0 ∷ 2 ∷ []) $ fjoin ! $ nothing ! $ fjoin ! $ nothing ! $ fjoin ! $ move ! (5 ∷ 1 ∷ 0 ∷ 2 ∷ []) $ ends-answering (identifier ∷ word ∷ word ∷ word ∷ sending) written WritesFrame 𝓤 H A W κs qs x a ! v r (tt, (tt, (tt, ws .1))) (e ∙ frames (now x) c d ed (a .0) (now (a .1 .1 .1 .1 .0)) (now (a .1 .1 .1 .1 .1 .0)) (a .1 .1 .1 .1 .1 .1 .0) (a .1 .0) (a .1 .1 .0) (a .1 .1 .1 .0) ec))))))))))))))))
 
 pub write-frame-spec : {M : Type 1} → stated.statement M
 unfolding code.routine
