@@ -12,13 +12,13 @@ use ghost.Atoms.{Atoms}
 use contract.Monad.{fact}
 use contract.Lifetimes.{Lfts, Shares, AllOutlive}
 use contract.Running.{GhostRules, Running, givenOf, tables}
-use types.Kit.{Given, Post, Item, Seq, mean, prop, runs, lands, ‵, raw, some, later, _⊛_, _$_, move, use1, recast, split, join, pick, suffices, frame, await, done}
+use types.Kit.{Given, Post, Item, Seq, mean, prop, runs, lands, ‵, raw, some, later, _⊛_, _$_, move, drop, use1, recast, split, join, pick, suffices, frame, await, done}
 use types.Run.{Opds}
 use sound.WpLaws.{FmC}
 use denote.RattleType.{owns, flat}
 use denote.Laws.{Is, Are, Ises, Makes, Spells, Tellss, valss, shows}
 use denote.Signature.{typeAt, typesAt}
-use denote.Steps.{facts, heard, nothing, owned}
+use denote.Steps.{heard, nothing, owned, peeks}
 use denote.Triple.Call.{calls-at}
 use denote.Triple.Clauses.{AtExit, Clauses, Ended, Lasts, atExit, closing, lasts}
 use denote.Triple.Entry.{Args, Res, Vals, alive, onEntry}
@@ -40,27 +40,34 @@ module _ (T : Ended) (Said : Fact T) {M : Type 1} (𝓤 : URA M) where
 
 -- the call: i is the lifetimes' tokens, which come back, and the head of what follows says the parameters' last values
 module _ {M : Type 1} {𝓤 : URA M} {H : Heap 𝓤} {A : Atoms 𝓤} {K : Type 0} {W : Given 𝓤 H A} {Γ : List (Item 𝓤)} {E : Env 𝓤 H} {C : Calls 𝓤 H} {Λ : Loops 𝓤 H} {q : Post 𝓤 H} {i : Item 𝓤} {f : Name} {xs : List Opd} {d : Place} {rest : Body} where
-  pub calls-ensuring :
-      K
-      → FmC 𝓤 H (W .laws) C
-      → (T : Ended) (Said : Fact T)
-      → Triple 𝓤 (C f) (Ensures T Said 𝓤 H A)
-      → (κs : Lfts (T .signature .lifetimes)) (qs : Shares (T .signature .lifetimes)) (bounds : AllOutlive (T .signature .lifetimes) (T .signature .outlives) κs) (a : Args (T .signature) κs) (vss : Vals (T .signature) κs)
-      → mean 𝓤 H A i ≡ alive 𝓤 H A (T .signature) κs qs
-      → Opds K W (raw (Ensures T Said 𝓤 H A .pre ((κs, qs, bounds, a, vss), tt)) ∷ Γ) E xs (flat (typesAt (T .signature .params) κs) vss)
-      → ((v : Val) (r : Res (T .signature) κs) (ws : Lasts T κs a)
-      → Said κs a r (atExit T κs a ws)
-      → Is (typeAt (T .signature .result) κs) r (v ∷ [])
-      → Seq K W (i ∷ ‵ (lasts T κs a ws) ∷ Γ) (lands C Λ E d v rest q))
-      → Seq K W (i ∷ ‵ (owns (typesAt (T .signature .params) κs) a vss) ∷ Γ) (runs C Λ E (seq (call f xs d) rest) q)
-  calls-ensuring t fm T Said met κs qs bounds a vss same os k =
-      recast W (raw (alive 𝓤 H A (T .signature) κs qs)) same $ join t $ nothing t $ move t (1 ∷ 0 ∷ []) $ join t $ use1 W (raw (Ensures T Said 𝓤 H A .pre ((κs, qs, bounds, a, vss), tt))) (id⊢ 𝓤 _) $
-      calls-at t fm (Ensures T Said 𝓤 H A) met ((κs, qs, bounds, a, vss), tt) os (λ v.
-      use1 W (later (some (λ (r : Res (T .signature) κs). (raw (alive 𝓤 H A (T .signature) κs qs) ⊛ ‵ (typeAt (T .signature .result) κs .own r (v ∷ []))) ⊛ some (λ (ws : Lasts T κs a). ‵ (lasts T κs a ws) ⊛ raw (fact 𝓤 (Said κs a r (atExit T κs a ws))))))) (id⊢ 𝓤 _) $
-      await t tt $ pick t (λ r. split t $ move t (1 ∷ []) $ pick t (λ ws. split t $ move t (1 ∷ []) $ heard t (Said κs a r (atExit T κs a ws)) (λ e.
-      -- [the last values; the tokens and the result]
-      move t (1 ∷ []) $ split t $ move t (1 ∷ []) $ facts t (typeAt (T .signature .result) κs) (Is (typeAt (T .signature .result) κs)) (shows 𝓤 H A (typeAt (T .signature .result) κs)) r (v ∷ []) (λ is.
-      recast W i (sym same) $ k v r ws e is)))))
+  -- what is passed, and what the callee then asks
+  module _ (t : K) (fm : FmC 𝓤 H (W .laws) C) (T : Ended) (Said : Fact T) (met : Triple 𝓤 (C f) (Ensures T Said 𝓤 H A))
+      (κs : Lfts (T .signature .lifetimes)) (qs : Shares (T .signature .lifetimes)) (bounds : AllOutlive (T .signature .lifetimes) (T .signature .outlives) κs) (a : Args (T .signature) κs) (vss : Vals (T .signature) κs)
+      (same : mean 𝓤 H A i ≡ alive 𝓤 H A (T .signature) κs qs)
+      (os : Opds K W (raw (Ensures T Said 𝓤 H A .pre ((κs, qs, bounds, a, vss), tt)) ∷ Γ) E xs (flat (typesAt (T .signature .params) κs) vss)) where
+    -- what the result owns stands behind
+    pub calls-owning :
+        ((v : Val) (r : Res (T .signature) κs) (ws : Lasts T κs a)
+        → Said κs a r (atExit T κs a ws)
+        → Is (typeAt (T .signature .result) κs) r (v ∷ [])
+        → Seq K W (i ∷ ‵ (lasts T κs a ws) ∷ ‵ (typeAt (T .signature .result) κs .own r (v ∷ [])) ∷ Γ) (lands C Λ E d v rest q))
+        → Seq K W (i ∷ ‵ (owns (typesAt (T .signature .params) κs) a vss) ∷ Γ) (runs C Λ E (seq (call f xs d) rest) q)
+    calls-owning k =
+        recast W (raw (alive 𝓤 H A (T .signature) κs qs)) same $ join t $ nothing t $ move t (1 ∷ 0 ∷ []) $ join t $ use1 W (raw (Ensures T Said 𝓤 H A .pre ((κs, qs, bounds, a, vss), tt))) (id⊢ 𝓤 _) $
+        calls-at t fm (Ensures T Said 𝓤 H A) met ((κs, qs, bounds, a, vss), tt) os (λ v.
+        use1 W (later (some (λ (r : Res (T .signature) κs). (raw (alive 𝓤 H A (T .signature) κs qs) ⊛ ‵ (typeAt (T .signature .result) κs .own r (v ∷ []))) ⊛ some (λ (ws : Lasts T κs a). ‵ (lasts T κs a ws) ⊛ raw (fact 𝓤 (Said κs a r (atExit T κs a ws))))))) (id⊢ 𝓤 _) $
+        await t tt $ pick t (λ r. split t $ move t (1 ∷ []) $ pick t (λ ws. split t $ move t (1 ∷ []) $ heard t (Said κs a r (atExit T κs a ws)) (λ e.
+        -- [the last values; the tokens and the result]
+        move t (1 ∷ []) $ split t $ move t (1 ∷ []) $ peeks t (typeAt (T .signature .result) κs) (Is (typeAt (T .signature .result) κs)) (shows 𝓤 H A (typeAt (T .signature .result) κs)) r (v ∷ []) (λ is.
+        move t (1 ∷ 2 ∷ []) $ recast W i (sym same) $ k v r ws e is)))))
+
+    pub calls-ensuring :
+        ((v : Val) (r : Res (T .signature) κs) (ws : Lasts T κs a)
+        → Said κs a r (atExit T κs a ws)
+        → Is (typeAt (T .signature .result) κs) r (v ∷ [])
+        → Seq K W (i ∷ ‵ (lasts T κs a ws) ∷ Γ) (lands C Λ E d v rest q))
+        → Seq K W (i ∷ ‵ (owns (typesAt (T .signature .params) κs) a vss) ∷ Γ) (runs C Λ E (seq (call f xs d) rest) q)
+    calls-ensuring k = calls-owning (λ v r ws e is. move t (2 ∷ []) $ drop t $ k v r ws e is)
 
 -- the end, of any contract c that ensures facts alone: what is had of the parameters, and a result that owns only facts
 module _ (T : Ended) (hs : Stays (T .signature .params) (T .kept)) {M : Type 1} (𝓤 : URA M) (H : Heap 𝓤) (A : Atoms 𝓤) (W : Given 𝓤 H A) (c : Clauses 𝓤 T)

@@ -68,7 +68,7 @@ record-typed 𝓤 H A W z g = LL.lawful R.the-type R′.the-laws 𝓤 H A W .typ
 
 module _ {M : Type 1} {𝓤 : URA M} {H : Heap 𝓤} {A : Atoms 𝓤} {K : Type 0} {W : Given 𝓤 H A} {E : Env 𝓤 H} where
   -- a place of a local whose type and address are known
-  at-local : K → {Γ : List (Item 𝓤)} {k : ℕ} {sp sp′ : Spot 𝓤 H} {st : List PStep} → spotOf 𝓤 H E k ≡ sp → Walks K W Γ E sp st sp′ → Finds K W Γ E (place k st) sp′
+  pub at-local : K → {Γ : List (Item 𝓤)} {k : ℕ} {sp sp′ : Spot 𝓤 H} {st : List PStep} → spotOf 𝓤 H E k ≡ sp → Walks K W Γ E sp st sp′ → Finds K W Γ E (place k st) sp′
   at-local t {Γ} {k} {sp} {sp′} {st} e w = from t (subst (λ (u : Spot 𝓤 H). Walks K W Γ E u st sp′) (sym e) w)
 
   module _ {C : Calls 𝓤 H} {Λ : Loops 𝓤 H} {Q : Post 𝓤 H} where

@@ -7,9 +7,12 @@ pub mod Deciding
 pub mod Zeros
 pub mod Home
 pub mod Shared
+pub mod Passing
 pub mod Storing
 pub mod DecideCall
 pub mod ChangeCall
+pub mod Answering
+pub mod Facts
 pub mod Answers
 pub mod Refusals
 pub mod Changing
