@@ -119,10 +119,6 @@ pub length-encode : (n : ℕ) → length (encode n) ≡ leastSize n
 unfolding encode encodeAs leastSize
 length-encode n = length-bytesOf (2 ^ leastWidth n) _
 
-pub encode-bytes : (n : ℕ) → Bytes (encode n)
-unfolding encode encodeAs
-encode-bytes n = bytesOf-bytes (2 ^ leastWidth n) _
-
 pub read-back : ReadBack
 unfolding encode leastSize largest
 read-back n h rest =

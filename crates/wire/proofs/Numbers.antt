@@ -61,10 +61,6 @@ num-join s t = joined ∙ numFrom-shift (num s) t
     joined : num (s ++ t) ≡ numFrom (num s) t
     joined = unfold num in numFrom-append 0 s t
 
-pub num-snoc : (s : List ℕ) (b : ℕ) → num (s ++ (b ∷ [])) ≡ num s * 256 + b
-unfolding num numFrom
-num-snoc s b = numFrom-append 0 s (b ∷ [])
-
 pub numFrom-div : (n : ℕ) (s : List ℕ) → Bytes s → numFrom n s / 256 ^ length s ≡ n
 unfolding numFrom
 numFrom-div n [] h = div-one n
