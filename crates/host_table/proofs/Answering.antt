@@ -45,7 +45,7 @@ use Rattle.host_table.proofs.query.Decided as D
 use Rattle.host_table.proofs.query.Decided.Laws as D′
 use Rattle.host_table.proofs.rows.decide.Symbol.{name as #decide}
 use Rattle.host.proofs.Calling.{Fact, Ensures, calls-ensuring, calls-owning}
-use Rattle.host_table.proofs.DecideCall.{rowsAt, DecideSaid, DecideEnded, decides}
+use Rattle.host_table.proofs.Querying.{rowsAt, read, querying, DecideSaid, decides}
 use Rattle.host_table.proofs.Passing.{Param, Fitting, shared, taking, slots, values, passing, OwedPassing, ends-owning, meets-passing}
 use Rattle.host_table.proofs.Elements.{rowsTy, at-local}
 
@@ -59,7 +59,7 @@ module _ (n : ℕ) (ss : List (Slot n)) where
         K
         → FmC 𝓤 H (W .laws) C
         → Triple 𝓤 (C f) (Ensures asking Said 𝓤 H A)
-        → Triple 𝓤 (C #decide) (Ensures DecideEnded DecideSaid 𝓤 H A)
+        → Triple 𝓤 (C #decide) (Ensures (querying read) DecideSaid 𝓤 H A)
         → (κs : Lfts n) (qs : Shares n) (a : Denots (typesAt ss κs)) (vss : Valss (typesAt ss κs))
         → mean 𝓤 H A i ≡ toks 𝓤 A n κs qs
         → (κ : Lft) (q : Share) (x : RefT (List StreamRecord))

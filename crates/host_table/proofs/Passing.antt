@@ -1,5 +1,6 @@
 -- A function that passes on what it is given: at its exit it has of each parameter what its contract says of the parameter's last value, and no more.
---     Param            a parameter's slot, with its machine values.        word, identifier, bytes, output      a number, a stream ID, a `&[u8]` and a `&mut [u8]`
+--     Param            a parameter's slot, with its machine values.        datum        plain data.        shared, changed      a `&[T]` and a `&mut [T]`
+--     word, identifier, bytes, output      a number, a stream ID, a `&[u8]` and a `&mut [u8]`
 --     passing          the signature of a function with such parameters, which speaks of each of them at exit
 --     meets-passing    a walk of its code from the tokens and what the parameters own, and it meets its contract
 --     ends-owning      where the walk ends, with what the result owns in hand
@@ -68,11 +69,14 @@ pub record Param (n : ℕ) : Type 2 where
   pub lawful : {M : Type 1} (𝓤 : URA M) (H : Heap 𝓤) (A : Atoms 𝓤) → Given 𝓤 H A → (κs : Lfts n) → Lawful 𝓤 H A (slot .row κs)
 
 module _ {n : ℕ} where
+  abbrev pub datum : (P : RattleType) (vals : P .Denot → List Val) → Tells P (Is P) vals → ((M : Type 1) (𝓤 : URA M) (H : Heap 𝓤) (A : Atoms 𝓤) → Given 𝓤 H A → Lawful 𝓤 H A P) → Param n
+  datum P vals tells law = record { slot = plain (λ _. P); vals = λ κs. vals; tells = λ κs. tells; lawful = λ 𝓤 H A W κs. law _ 𝓤 H A W }
+
   abbrev pub word : Param n
-  word = record { slot = plain (λ _. u64); vals = λ κs. uint-vals w64; tells = λ κs. uint-tells w64; lawful = λ 𝓤 H A W κs. uint-lawful 𝓤 H A W w64 }
+  word = datum u64 (uint-vals w64) (uint-tells w64) (λ M 𝓤 H A W. uint-lawful 𝓤 H A W w64)
 
   abbrev pub identifier : Param n
-  identifier = record { slot = plain (λ _. N.the-row); vals = λ κs. LL.vals N.the-type N′.the-laws; tells = λ κs. LL.tells N.the-type N′.the-laws; lawful = λ 𝓤 H A W κs. LL.lawful N.the-type N′.the-laws 𝓤 H A W }
+  identifier = datum N.the-row (LL.vals N.the-type N′.the-laws) (LL.tells N.the-type N′.the-laws) (λ M 𝓤 H A W. LL.lawful N.the-type N′.the-laws 𝓤 H A W)
 
   module _ (i : ℕ) (ok : AllWithin n (i ∷ [])) where
     abbrev pub shared : RattleType → Param n
@@ -81,8 +85,11 @@ module _ {n : ℕ} where
     abbrev pub bytes : Param n
     bytes = shared u8
 
+    abbrev pub changed : RattleType → Param n
+    changed R = record { slot = mutSliceOf (i ∷ []) ok (plain (λ _. R)); vals = λ κs. slice-vals; tells = λ κs. mut-slice-tells (named i) (lftAt n i ok κs) R; lawful = λ 𝓤 H A W κs. mut-slice-lawful 𝓤 H A W (named i) (lftAt n i ok κs) R }
+
     abbrev pub output : Param n
-    output = record { slot = mutSliceOf (i ∷ []) ok (plain (λ _. u8)); vals = λ κs. slice-vals; tells = λ κs. mut-slice-tells (named i) (lftAt n i ok κs) u8; lawful = λ 𝓤 H A W κs. mut-slice-lawful 𝓤 H A W (named i) (lftAt n i ok κs) u8 }
+    output = changed u8
 
   abbrev pub slots : List (Param n) → List (Slot n)
   slots [] = []
