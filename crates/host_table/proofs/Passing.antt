@@ -7,7 +7,7 @@
 --     taking           the signature of a function that takes plain data first.        takes-last       a call of it that is the last, and its result is returned
 --     clears           a local is freed
 -- Assumes nothing.
-use mathlib.Core.Path.{_≡_, refl, sym, ap}
+use mathlib.Core.Path.{_≡_, refl, ap}
 use Prim.Native.Nat.{ℕ}
 use mathlib.Core.List.{List, [], _∷_}
 use lib.Dec.{T}
@@ -23,11 +23,11 @@ use prog.Wp.{Heap, Env, Calls, Closed, Loops, WpFn}
 use ghost.Atoms.{Atoms, sem}
 use contract.Lifetimes.{Lfts, Shares, lftAt, toks}
 use contract.Running.{GhostRules, Running, givenOf, tables}
-use types.Kit.{Given, Goal, Item, Seq, Sq, Step, step, mean, runs, frees, atRet, prop, ‵, raw, _$_, _∵_, !, qed, keep, move, drop, recast, fsplit, fjoin, suffices, frame, done}
+use types.Kit.{Given, Goal, Item, Seq, Sq, Step, step, mean, runs, frees, atRet, prop, ‵, raw, _$_, _∵_, qed, keep, move, drop, recast, fsplit, fjoin, suffices, frame, done}
 use types.Run.{Opds, look, init, forget, stop, from, land, returns, free1}
 use sound.WpLaws.{FmC}
 use denote.Builtin.{u8, u64}
-use denote.Exit.{Kept, left, yes}
+use denote.Exit.{left, yes}
 use denote.Laws.{Is, Ises, Lawful, Lawfuls, Makes, Spells, Tells, Tellss, Typed, all-typed, valss}
 use denote.Plain.{uint-lawful, uint-tells, uint-vals}
 use denote.RattleType.{Denots, RattleType, Valss, flat, mirs, owns}
@@ -38,7 +38,7 @@ use denote.Struct.Laws as LL
 use denote.Triple.Clauses.{Ended, Lasts, atExit, lasts}
 use denote.Triple.End.{Fins, Kepts, all, lastsOf}
 use denote.Triple.Statement.{Triple}
-use denote.Triple.Walked.{AllGo, Stay, Stays, ends-at, fitsOf, hasOf, says}
+use denote.Triple.Walked.{AllGo, Stays, ends-at, fitsOf, hasOf, says}
 use Rattle.wire.proofs.units.StreamId as N
 use Rattle.wire.proofs.units.StreamId.Laws as N′
 use Rattle.host.proofs.Calling.{Fact, Ensures, Owed, ensuring, calls-owning, meets-ensuring}

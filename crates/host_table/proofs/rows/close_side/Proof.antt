@@ -1,15 +1,10 @@
 -- `close_side`, by the walk of `Changing`. Assumes nothing.
 use mathlib.Core.Path.{_≡_, refl}
-use mathlib.Core.List.{[], _∷_, List}
-use Rattle.streams.specs.declared.record.Side.{Side}
 use Rattle.streams.proofs.record.Side as X
 use Rattle.streams.proofs.record.Side.Laws as X′
 use contract.Running.{givenOf}
 use denote.Enum.Laws as EL
 use denote.Triple.Table.{cited}
-use Rattle.wire.specs.declared.units.StreamId.{StreamId}
-use Rattle.streams.specs.declared.record.StreamRecord.{StreamRecord}
-use Rattle.streams.specs.declared.table.Closing.{Closing}
 use Rattle.streams.specs.Tables.{closingOf, tableClosed}
 use Rattle.streams.proofs.table.Closing as E
 use Rattle.streams.proofs.table.Closing.Laws as E′

@@ -1,17 +1,12 @@
 -- `open_stream`, by the walk of `Changing`. Assumes nothing.
 use mathlib.Core.Path.{_≡_, refl}
-use mathlib.Core.List.{[], _∷_, List}
-use mathlib.Core.Bool.{Bool}
 use mir.Syntax.{tyBool}
 use mir.Val.{vbool}
 use denote.Builtin.{bool}
-use denote.Plain.{bool-tells, bool-makes, bool-lawful}
+use denote.Plain.{bool-tells, bool-lawful}
 use contract.Running.{givenOf}
 use denote.Enum.Laws as EL
 use denote.Triple.Table.{cited}
-use Rattle.wire.specs.declared.units.StreamId.{StreamId}
-use Rattle.streams.specs.declared.record.StreamRecord.{StreamRecord}
-use Rattle.streams.specs.declared.table.Opening.{Opening}
 use Rattle.streams.specs.Tables.{openingOf, tableOpened}
 use Rattle.streams.proofs.table.Opening as E
 use Rattle.streams.proofs.table.Opening.Laws as E′
