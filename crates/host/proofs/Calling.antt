@@ -39,10 +39,9 @@ module _ (T : Ended) (Said : Fact T) {M : Type 1} (𝓤 : URA M) where
   Ensures H A = tripleOf 𝓤 H A (T .signature) (closing 𝓤 H A T ensuring)
 
 -- after a call, by any contract: what its `ensures` says of the result and the last values is learned
-module _ {M : Type 1} {𝓤 : URA M} {H : Heap 𝓤} {A : Atoms 𝓤} {K : Type 0} {W : Given 𝓤 H A} {Γ : List (Item 𝓤)} {G : Goal 𝓤 H} where
+module _ (T : Ended) {M : Type 1} {𝓤 : URA M} (c : Clauses 𝓤 T) {H : Heap 𝓤} {A : Atoms 𝓤} {K : Type 0} {W : Given 𝓤 H A} {Γ : List (Item 𝓤)} {G : Goal 𝓤 H} where
   pub answered :
-      (T : Ended) (c : Clauses 𝓤 T)
-      → K
+      K
       → Soaks G
       → (y : tripleOf 𝓤 H A (T .signature) (closing 𝓤 H A T c) .Ghost) (Claim : Res (T .signature) (y .0 .0) → AtExit T (y .0 .0) → Type 0)
       → ((r : Res (T .signature) (y .0 .0)) (e : AtExit T (y .0 .0)) → ent 𝓤 (c (y .0 .0) (y .0 .3) .ensures (y .1) r e) (fact 𝓤 (Claim r e)))
@@ -52,7 +51,7 @@ module _ {M : Type 1} {𝓤 : URA M} {H : Heap 𝓤} {A : Atoms 𝓤} {K : Type 
       → Is (typeAt (T .signature .result) (y .0 .0)) r (v ∷ [])
       → Seq K W (raw (alive 𝓤 H A (T .signature) (y .0 .0) (y .0 .1)) ∷ ‵ (lasts T (y .0 .0) (y .0 .3) ws) ∷ ‵ (typeAt (T .signature .result) (y .0 .0) .own r (v ∷ [])) ∷ Γ) G)
       → Seq K W (raw (tripleOf 𝓤 H A (T .signature) (closing 𝓤 H A T c) .post y v) ∷ Γ) G
-  answered T c t z y Claim claims v k =
+  answered t z y Claim claims v k =
       let R : RattleType = typeAt (T .signature .result) (y .0 .0) in
       use1 W (later (some (λ (r : R .Denot). (raw (alive 𝓤 H A (T .signature) (y .0 .0) (y .0 .1)) ⊛ ‵ (R .own r (v ∷ []))) ⊛ some (λ (ws : Lasts T (y .0 .0) (y .0 .3)). ‵ (lasts T (y .0 .0) (y .0 .3) ws) ⊛ raw (c (y .0 .0) (y .0 .3) .ensures (y .1) r (atExit T (y .0 .0) (y .0 .3) ws)))))) (id⊢ 𝓤 _) $
       await t z $ pick t (λ r. split t $ move t (1 ∷ []) $ pick t (λ ws. split t $ move t (1 ∷ []) $

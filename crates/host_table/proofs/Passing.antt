@@ -148,9 +148,8 @@ module _ {n : ℕ} (ps : List (Param n)) (r : Slot n) where
         walk fm κs qs a (all-typed 𝓤 H (𝓖 .A) (typesAt (slots ps) κs) (lawfuls κs 𝓤 H (𝓖 .A) (givenOf 𝓤 H 𝓜 𝓖) ps) a (values κs ps a) are))
 
 -- ---- calls and the end of the code
-module _ {M : Type 1} {𝓤 : URA M} {H : Heap 𝓤} {A : Atoms 𝓤} {K : Type 0} {W : Given 𝓤 H A} where
-  pub clears : K → {Γ : List (Item 𝓤)} {τ : Ty} {b : ℕ} {v : Val} {E : Env 𝓤 H} {g : Goal 𝓤 H} → Step K W Γ (frees E g) (‵ (fat fullShare τ b 0 v) ∷ ‵ (fdies τ b) ∷ Γ) (frees ((τ, b) ∷ E) g)
-  clears t = step (λ s. forget t 0 refl $ free1 t $ s)
+pub clears : {M : Type 1} {𝓤 : URA M} {H : Heap 𝓤} {A : Atoms 𝓤} {K : Type 0} {W : Given 𝓤 H A} {Γ : List (Item 𝓤)} {τ : Ty} {b : ℕ} {v : Val} {E : Env 𝓤 H} {g : Goal 𝓤 H} → K → Step K W Γ (frees E g) (‵ (fat fullShare τ b 0 v) ∷ ‵ (fdies τ b) ∷ Γ) (frees ((τ, b) ∷ E) g)
+clears t = step (λ s. forget t 0 refl $ free1 t $ s)
 
 -- P is plain data, and goes to the callee with what stands beside it
 module _ (P : RattleType) (n : ℕ) (ss : List (Slot n)) (r : Slot n) where
