@@ -9,8 +9,7 @@ pub mod Home
 pub mod Shared
 pub mod Passing
 pub mod Storing
-pub mod DecideCall
-pub mod ChangeCall
+pub mod Querying
 pub mod Answering
 pub mod Facts
 pub mod Answers

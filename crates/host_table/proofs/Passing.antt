@@ -1,12 +1,13 @@
 -- A function that passes on what it is given: at its exit it has of each parameter what its contract says of the parameter's last value, and no more.
---     Param            a parameter's slot, with its machine values.        word, identifier, bytes, output      a number, a stream ID, a `&[u8]` and a `&mut [u8]`
+--     Param            a parameter's slot, with its machine values.        datum        plain data.        shared, changed      a `&[T]` and a `&mut [T]`
+--     word, identifier, bytes, output      a number, a stream ID, a `&[u8]` and a `&mut [u8]`
 --     passing          the signature of a function with such parameters, which speaks of each of them at exit
 --     meets-passing    a walk of its code from the tokens and what the parameters own, and it meets its contract
 --     ends-owning      where the walk ends, with what the result owns in hand
 --     taking           the signature of a function that takes plain data first.        takes-last       a call of it that is the last, and its result is returned
 --     clears           a local is freed
 -- Assumes nothing.
-use mathlib.Core.Path.{_≡_, refl, sym, ap}
+use mathlib.Core.Path.{_≡_, refl, ap}
 use Prim.Native.Nat.{ℕ}
 use mathlib.Core.List.{List, [], _∷_}
 use lib.Dec.{T}
@@ -22,11 +23,11 @@ use prog.Wp.{Heap, Env, Calls, Closed, Loops, WpFn}
 use ghost.Atoms.{Atoms, sem}
 use contract.Lifetimes.{Lfts, Shares, lftAt, toks}
 use contract.Running.{GhostRules, Running, givenOf, tables}
-use types.Kit.{Given, Goal, Item, Seq, Sq, Step, step, mean, runs, frees, atRet, prop, ‵, raw, _$_, _∵_, !, qed, keep, move, drop, recast, fsplit, fjoin, suffices, frame, done}
+use types.Kit.{Given, Goal, Item, Seq, Sq, Step, step, mean, runs, frees, atRet, prop, ‵, raw, _$_, _∵_, qed, keep, move, drop, recast, fsplit, fjoin, suffices, frame, done}
 use types.Run.{Opds, look, init, forget, stop, from, land, returns, free1}
 use sound.WpLaws.{FmC}
 use denote.Builtin.{u8, u64}
-use denote.Exit.{Kept, left, yes}
+use denote.Exit.{left, yes}
 use denote.Laws.{Is, Ises, Lawful, Lawfuls, Makes, Spells, Tells, Tellss, Typed, all-typed, valss}
 use denote.Plain.{uint-lawful, uint-tells, uint-vals}
 use denote.RattleType.{Denots, RattleType, Valss, flat, mirs, owns}
@@ -37,7 +38,7 @@ use denote.Struct.Laws as LL
 use denote.Triple.Clauses.{Ended, Lasts, atExit, lasts}
 use denote.Triple.End.{Fins, Kepts, all, lastsOf}
 use denote.Triple.Statement.{Triple}
-use denote.Triple.Walked.{AllGo, Stay, Stays, ends-at, fitsOf, hasOf, says}
+use denote.Triple.Walked.{AllGo, Stays, ends-at, fitsOf, hasOf, says}
 use Rattle.wire.proofs.units.StreamId as N
 use Rattle.wire.proofs.units.StreamId.Laws as N′
 use Rattle.host.proofs.Calling.{Fact, Ensures, Owed, ensuring, calls-owning, meets}
@@ -68,11 +69,14 @@ pub record Param (n : ℕ) : Type 2 where
   pub lawful : {M : Type 1} (𝓤 : URA M) (H : Heap 𝓤) (A : Atoms 𝓤) → Given 𝓤 H A → (κs : Lfts n) → Lawful 𝓤 H A (slot .row κs)
 
 module _ {n : ℕ} where
+  abbrev pub datum : (P : RattleType) (vals : P .Denot → List Val) → Tells P (Is P) vals → ((M : Type 1) (𝓤 : URA M) (H : Heap 𝓤) (A : Atoms 𝓤) → Given 𝓤 H A → Lawful 𝓤 H A P) → Param n
+  datum P vals tells law = record { slot = plain (λ _. P); vals = λ κs. vals; tells = λ κs. tells; lawful = λ 𝓤 H A W κs. law _ 𝓤 H A W }
+
   abbrev pub word : Param n
-  word = record { slot = plain (λ _. u64); vals = λ κs. uint-vals w64; tells = λ κs. uint-tells w64; lawful = λ 𝓤 H A W κs. uint-lawful 𝓤 H A W w64 }
+  word = datum u64 (uint-vals w64) (uint-tells w64) (λ M 𝓤 H A W. uint-lawful 𝓤 H A W w64)
 
   abbrev pub identifier : Param n
-  identifier = record { slot = plain (λ _. N.the-row); vals = λ κs. LL.vals N.the-type N′.the-laws; tells = λ κs. LL.tells N.the-type N′.the-laws; lawful = λ 𝓤 H A W κs. LL.lawful N.the-type N′.the-laws 𝓤 H A W }
+  identifier = datum N.the-row (LL.vals N.the-type N′.the-laws) (LL.tells N.the-type N′.the-laws) (λ M 𝓤 H A W. LL.lawful N.the-type N′.the-laws 𝓤 H A W)
 
   module _ (i : ℕ) (ok : AllWithin n (i ∷ [])) where
     abbrev pub shared : RattleType → Param n
@@ -81,8 +85,11 @@ module _ {n : ℕ} where
     abbrev pub bytes : Param n
     bytes = shared u8
 
+    abbrev pub changed : RattleType → Param n
+    changed R = record { slot = mutSliceOf (i ∷ []) ok (plain (λ _. R)); vals = λ κs. slice-vals; tells = λ κs. mut-slice-tells (named i) (lftAt n i ok κs) R; lawful = λ 𝓤 H A W κs. mut-slice-lawful 𝓤 H A W (named i) (lftAt n i ok κs) R }
+
     abbrev pub output : Param n
-    output = record { slot = mutSliceOf (i ∷ []) ok (plain (λ _. u8)); vals = λ κs. slice-vals; tells = λ κs. mut-slice-tells (named i) (lftAt n i ok κs) u8; lawful = λ 𝓤 H A W κs. mut-slice-lawful 𝓤 H A W (named i) (lftAt n i ok κs) u8 }
+    output = changed u8
 
   abbrev pub slots : List (Param n) → List (Slot n)
   slots [] = []
@@ -141,9 +148,8 @@ module _ {n : ℕ} (ps : List (Param n)) (r : Slot n) where
         walk fm κs qs a (all-typed 𝓤 H (𝓖 .A) (typesAt (slots ps) κs) (lawfuls κs 𝓤 H (𝓖 .A) (givenOf 𝓤 H 𝓜 𝓖) ps) a (values κs ps a) are))
 
 -- ---- calls and the end of the code
-module _ {M : Type 1} {𝓤 : URA M} {H : Heap 𝓤} {A : Atoms 𝓤} {K : Type 0} {W : Given 𝓤 H A} where
-  pub clears : K → {Γ : List (Item 𝓤)} {τ : Ty} {b : ℕ} {v : Val} {E : Env 𝓤 H} {g : Goal 𝓤 H} → Step K W Γ (frees E g) (‵ (fat fullShare τ b 0 v) ∷ ‵ (fdies τ b) ∷ Γ) (frees ((τ, b) ∷ E) g)
-  clears t = step (λ s. forget t 0 refl $ free1 t $ s)
+pub clears : {M : Type 1} {𝓤 : URA M} {H : Heap 𝓤} {A : Atoms 𝓤} {K : Type 0} {W : Given 𝓤 H A} {Γ : List (Item 𝓤)} {τ : Ty} {b : ℕ} {v : Val} {E : Env 𝓤 H} {g : Goal 𝓤 H} → K → Step K W Γ (frees E g) (‵ (fat fullShare τ b 0 v) ∷ ‵ (fdies τ b) ∷ Γ) (frees ((τ, b) ∷ E) g)
+clears t = step (λ s. forget t 0 refl $ free1 t $ s)
 
 -- P is plain data, and goes to the callee with what stands beside it
 module _ (P : RattleType) (n : ℕ) (ss : List (Slot n)) (r : Slot n) where

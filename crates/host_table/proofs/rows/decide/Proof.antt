@@ -81,7 +81,7 @@ use Rattle.host_table.proofs.query.answer.Symbol.{name as #answer}
 use Rattle.host_table.proofs.query.answer.Met as answer-thm
 use Rattle.host.proofs.Meeting.{by-walk}
 use Rattle.host_table.proofs.Calls.{ContractOf, Call, asked, answered, answered-lent, calls-plain}
-use Rattle.host_table.proofs.DecideCall.{mk}
+use Rattle.host_table.proofs.Querying.{mk}
 use Rattle.host_table.proofs.Deciding.{decided-right}
 use Rattle.host_table.proofs.Elements.{rowsRef, rowsVal, Rows, record-typed}
 use Rattle.host_table.proofs.Home.{lent-out, home}

@@ -33,12 +33,12 @@ use Rattle.host_table.proofs.rows.write_capsule.Statement as stated
 use Rattle.host_table.proofs.rows.write_capsule.Code as code
 use Rattle.host.proofs.Calling.{Ensures}
 use Rattle.host_table.proofs.Passing.{identifier, slots, values, takes-last, clears}
-use Rattle.host_table.proofs.DecideCall.{DecideSaid, DecideEnded}
+use Rattle.host_table.proofs.Querying.{read, querying, DecideSaid}
 use Rattle.host_table.proofs.Answering.{asking, finishing, asks-and-decides, Answers, ends-answering, meets-answering}
 use Rattle.host_table.proofs.Facts.{written, sending, sent, SendsCapsule, CapsuleIn, WritesCapsule}
 
-module _ {M : Type 1} (𝓤 : URA M) (H : Heap 𝓤) (A : Atoms 𝓤) (W : Given 𝓤 H A) (C : Calls 𝓤 H) (Λ : Loops 𝓤 H) (fm : FmC 𝓤 H (W .laws) C)
-    (asks : Triple 𝓤 (C #ask) (Ensures (asking 0 (slots (identifier ∷ []))) SendsCapsule 𝓤 H A)) (decides : Triple 𝓤 (C #decide) (Ensures DecideEnded DecideSaid 𝓤 H A)) (takes : Triple 𝓤 (C #finish) (Ensures (finishing 2 (slots sent) written) CapsuleIn 𝓤 H A)) where
+module _ {M : Type 1} (𝓤 : URA M) (H : Heap 𝓤) (A : Atoms 𝓤) (W : Given 𝓤 H A) (C : Calls 𝓤 H) (Λ : Loops 𝓤 H) (fm : FmC 𝓤 H (W .laws) C) (asks : Triple 𝓤 (C #ask) (Ensures (asking 0 (slots (identifier ∷ []))) SendsCapsule 𝓤 H A))
+    (decides : Triple 𝓤 (C #decide) (Ensures (querying read) DecideSaid 𝓤 H A)) (takes : Triple 𝓤 (C #finish) (Ensures (finishing 2 (slots sent) written) CapsuleIn 𝓤 H A)) where
   walk : Answers (identifier ∷ sending) written WritesCapsule 𝓤 H A W C Λ code.function
   walk κs qs x a fit =
       enter ! C Λ code.function _ _ $ alloc1 ! (λ l₀. alloc1 ! (λ l₁. alloc1 ! (λ l₂. alloc1 ! (λ l₃. alloc1 ! (λ l₄. alloc1 ! (λ l₅. alloc1 ! (λ l₆. alloc1 ! (λ l₇. alloc1 ! (λ l₈. alloc1 ! (λ l₉. alloc0 ! $
