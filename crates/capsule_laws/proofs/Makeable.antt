@@ -34,7 +34,7 @@ use Rattle.capsule.specs.Calls.{Lent, lent, Call, feed, close, Reply, refused, 
 use Rattle.capsule.specs.Book.{Taken, append, Book, newBook, bookVerdict, bookFeed, bookClose, bookCall}
 use Rattle.capsule.specs.State.{phaseAt, phaseOf, readerOf, ofBook}
 use Rattle.capsule.specs.Reader.{opening, fresh, isOpening, openOf, isMakeablePhase, isMakeable, verdictOf, planOf, fedBy, takeOf, feedBy, feedOf, readerCall}
-use Rattle.capsule_laws.specs.Claims.{StandsAt, AllBytes, NoneIs, NeverUnmakeable, Makes, MakeableExactly, StaysMakeable, RefusedUnchanged, Progress}
+use Rattle.capsule_laws.specs.Claims.{StandsAt, AllBytes, NoneIs, NeverUnmakeable, Makes, MakeableExactly, StaysMakeable, RefusedUnchanged, Progress, StateDecided}
 use Rattle.capsule_laws.proofs.Grammar.{Sees, seesType, seesLength, seesValue, parts-part, parts-nil, tail-sees}
 use Rattle.capsule.proofs.Planning.{zero-one}
 use Rattle.capsule.proofs.Verdicts.{endpoint-lent, output-lent, accepted-makeable}
@@ -198,6 +198,12 @@ state-calls k (close ∷ cs) o h =
     let c = state-calls (bookCall k close .0) cs (a .stays-open) (h .1) in
     (ap (λ (x : Reader × Reply). run readerCall (x .0) cs .0) (a .same-answer) ∙ c .0, c .1)
 
+pub state-decided : StateDecided
+state-decided role limit draft r e cs h =
+    let f = open-fresh role limit draft r e in
+    let op = opening role limit draft in
+    ap (λ (x : Reader). run readerCall x cs .0) (f .1 ∙ fresh-book op) ∙ state-calls (newBook op) cs (fresh-open op (f .0)) h .0
+
 -- ---- refusal 1 exactly
 
 -- one piece, and a clean close where the state is finished
@@ -272,7 +278,7 @@ makeable r m =
     let f = open-fresh (m .role) (m .limit) (m .draft) (m .start) (m .opens) in
     let op = opening (m .role) (m .limit) (m .draft) in
     let s = state-calls (newBook op) (m .calls) (fresh-open op (f .0)) (m .bytes) in
-    let e : run readerCall (m .start) (m .calls) .0 ≡ ofBook (run bookCall (newBook op) (m .calls) .0) = ap (λ (x : Reader). run readerCall x (m .calls) .0) (f .1 ∙ fresh-book op) ∙ s .0 in
+    let e = state-decided (m .role) (m .limit) (m .draft) (m .start) (m .opens) (m .calls) (m .bytes) in
     subst (λ (x : Reader). isMakeable x ≡ true) (sym e ∙ m .makes) (made-book (run bookCall (newBook op) (m .calls) .0) (s .1))
 
 pub makeable-exactly : MakeableExactly

@@ -120,6 +120,15 @@ Demand3Standing =
     → LentWell (newBook (opening role limit draft)) cs
     → Agrees (opening role limit draft) r cs
 
+-- the state alone, whatever the lent buffers hold (proofs/Makeable.antt)
+abbrev pub StateDecided : Type 0
+StateDecided =
+    (role : Role) (limit : ℕ) (draft : Bool) (r : Reader)
+    → openOf role limit draft ≡ Ready r
+    → (cs : List Call)
+    → AllBytes cs
+    → run readerCall r cs .0 ≡ ofBook (run bookCall (newBook (opening role limit draft)) cs .0)
+
 -- ---- over the whole list (proofs/Lists.antt): with `Demand3`, of the reader's answers too
 
 unfoldable pub reportsIn : Ended → List Report

@@ -8,6 +8,7 @@ use native.Mathlib.Omega.{arith}
 use borrow.Author.Tests.{eqb-true, eq-eqb}
 use lib.Dec.{eqb}
 use lib.ListN.{length, getD}
+use Rattle.http.specs.Claims.{InUseExactly}
 use Rattle.http.specs.Field.{trimStart, trimEnd, sameBytes, inUse}
 
 same : (s : List ℕ) → sameBytes s s ≡ true
@@ -28,10 +29,9 @@ equal (b ∷ s) (c ∷ t) e =
     let h = both (eqb b c) (sameBytes s t) e in
     rw (eqb-true b c (h .0), equal s t (h .1))
 
--- a value is in use exactly if, without spaces at both ends, it is `?1`
-pub in-use : (value : List ℕ) → inUse value ≡ true ↔ trimEnd (trimStart value) ≡ 0x3f ∷ 0x31 ∷ []
+pub in-use-exactly : InUseExactly
 unfolding inUse
-in-use value = (equal _ _, λ e. rw e (same _))
+in-use-exactly value = (equal _ _, λ e. rw e (same _))
 
 -- ---- two bytes
 

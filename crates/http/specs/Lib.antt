@@ -4,4 +4,5 @@ pub mod Messages
 pub mod Settings
 pub mod Translation
 pub mod Ties
+pub mod Claims
 pub mod Cases

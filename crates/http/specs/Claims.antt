@@ -1,0 +1,11 @@
+-- What holds of the definitions. Each claim is a type here, and is proved in proofs/SameBytes.antt under its name in lower case with dashes.
+use mathlib.Core.Path.{_≡_}
+use mathlib.Core.Logic.{_↔_}
+use Prim.Native.Nat.{ℕ}
+use mathlib.Core.Bool.{true}
+use mathlib.Core.List.{List, [], _∷_}
+use Rattle.http.specs.Field.{inUse, trimStart, trimEnd}
+
+-- a value is in use exactly if, without spaces at both ends, it is `?1`
+abbrev pub InUseExactly : Type 0
+InUseExactly = (value : List ℕ) → inUse value ≡ true ↔ trimEnd (trimStart value) ≡ 0x3f ∷ 0x31 ∷ []
