@@ -1,4 +1,4 @@
-.PHONY: run test lib install fuzz bench
+.PHONY: run example test lib install fuzz bench
 
 FILE ?= samples/s.capture
 PREFIX ?= /usr/local
@@ -11,7 +11,12 @@ run:
 	@rt check list_capsules > build/run.log 2>&1 || { cat build/run.log; exit 1; }
 	@target/bin/list_capsules "$(FILE)"
 
-# Everything: the proofs, the edits that must be refused, the programs, the C example, and the comparison of the listing
+# Asks for an address, assigns one and tells routes, with the C interface.
+example: lib
+	@$(CC) -std=c99 -O2 -Ibuild/include examples/addresses.c -Lbuild/lib -lmaruzhenu -o build/addresses
+	@build/addresses
+
+# Everything: the proofs, the edits that must be refused, the programs, the C examples, and the comparison of the listing
 # and of all calls with the independent implementation.
 test:
 	@bash tests/run

@@ -136,7 +136,7 @@ static void open_host(struct host *host, uint64_t role) {
     memset(host->guard_before, 0xa5, GUARD);
     memset(host->gathering, 0x5a, LIMIT);
     memset(host->guard_behind, 0xa5, GUARD);
-    expect("opening a reader", 0, mrz_reader_open(host->words, role, LIMIT, 0));
+    expect("opening a reader", 0, mrz_reader_open(host->words, role, LIMIT, 0, 0));
 }
 
 static void check_guards(const struct host *host) {
@@ -161,7 +161,7 @@ static mrz_fed feed(struct host *host, const struct stream *stream) {
         length = left;
     }
     fed = mrz_reader_feed(host->words, stream->bytes + host->fed, length, host->gathering, LIMIT,
-                          output, length + MRZ_OUTPUT_HEADROOM);
+                          NULL, 0, output, length + MRZ_OUTPUT_HEADROOM);
     expect("feeding", 0, fed.refusal);
     if (fed.consumed > length || (length > 0 && fed.consumed == 0)) {
         fail("consumed bytes", length, fed.consumed);
@@ -241,7 +241,7 @@ static void one_round(unsigned round, uint64_t role, uint64_t type, uint64_t fal
     expect("closing the other reader", 0, closed.refusal);
     expect("the end of the stream that lies", MRZ_END_TRUNCATED, closed.end);
     expect("its error", MRZ_ERROR_TRUNCATED, closed.error);
-    fed = mrz_reader_feed(bad->words, bad_stream.bytes, 1, bad->gathering, LIMIT, output,
+    fed = mrz_reader_feed(bad->words, bad_stream.bytes, 1, bad->gathering, LIMIT, NULL, 0, output,
                           sizeof output);
     expect("feeding after the close", MRZ_REFUSAL_FINISHED, fed.refusal);
 }
@@ -260,8 +260,8 @@ int main(void) {
     uint64_t words[MRZ_READER_WORDS];
     size_t i;
     /* A null pointer with length 0 is an empty buffer. */
-    expect("opening a reader with limit 0", 0, mrz_reader_open(words, MRZ_ROLE_ENDPOINT, 0, 0));
-    expect("feeding nothing", 0, mrz_reader_feed(words, NULL, 0, NULL, 0, NULL, 0).refusal);
+    expect("opening a reader with limit 0", 0, mrz_reader_open(words, MRZ_ROLE_ENDPOINT, 0, 0, 0));
+    expect("feeding nothing", 0, mrz_reader_feed(words, NULL, 0, NULL, 0, NULL, 0, NULL, 0).refusal);
     expect("reading a number from nothing", 0, mrz_read_varint(NULL, 0).size);
     expect("listing nothing", MRZ_END_CLEAN, mrz_list(NULL, 0).end);
     for (i = 0; i < sizeof lengths / sizeof lengths[0]; i++) {

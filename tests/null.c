@@ -20,8 +20,11 @@ static void calls(const char *where, uint8_t *bytes, uint8_t *out, uint64_t *num
     uint8_t mark = MRZ_MARK_USED | MRZ_MARK_RECEIVE | MRZ_MARK_SEND | MRZ_MARK_SEMANTICS;
     const uint8_t frame[] = {1};
     uint8_t written[2] = {9, 9};
+    uint8_t addresses[MRZ_LONGEST_ADDRESS_VALUE];
     mrz_fed fed;
     mrz_judged judged;
+    mrz_address_found address;
+    mrz_route_found route;
 
     printf("%s\n", where);
     expect("read", 0, mrz_read_varint(bytes, 0).size);
@@ -33,19 +36,23 @@ static void calls(const char *where, uint8_t *bytes, uint8_t *out, uint64_t *num
     const uint8_t starts[3][3] = {{0x17, 0, 0}, {0x17, 5, 0x61}, {0x40, 0, 0}};
     const size_t lengths[3] = {2, 3, 1};
     for (int i = 0; i < 3; i++) {
-        expect("open a reader", 0, mrz_reader_open(words, MRZ_ROLE_ENDPOINT, 0, 0));
-        fed = mrz_reader_feed(words, starts[i], lengths[i], bytes, 0, out, 0);
+        expect("open a reader", 0, mrz_reader_open(words, MRZ_ROLE_ENDPOINT, 0, 0, 0));
+        fed = mrz_reader_feed(words, starts[i], lengths[i], bytes, 0, bytes, 0, out, 0);
         expect("feed", 0, fed.refusal);
         expect("feed", lengths[i], fed.consumed);
         memcpy(before, words, sizeof words);
-        fed = mrz_reader_feed(words, bytes, 0, bytes, 0, out, 0);
+        fed = mrz_reader_feed(words, bytes, 0, bytes, 0, bytes, 0, out, 0);
         expect("feed nothing", 0, fed.refusal | fed.consumed | fed.written | fed.report);
         expect("words kept", 0, (uint64_t)(memcmp(before, words, sizeof words) != 0));
     }
-    expect("open an intermediary", 0, mrz_reader_open(words, MRZ_ROLE_INTERMEDIARY, 0, 0));
-    expect("no output", MRZ_REFUSAL_OUTPUT_TOO_SHORT, mrz_reader_feed(words, bytes, 0, bytes, 0, out, 0).refusal);
-    expect("open with a limit", 0, mrz_reader_open(words, MRZ_ROLE_ENDPOINT, 1, 0));
-    expect("no gathering buffer", MRZ_REFUSAL_GATHERING_TOO_SHORT, mrz_reader_feed(words, bytes, 0, bytes, 0, out, 0).refusal);
+    /* an intermediary that opted in does not look at the address buffer */
+    expect("open an intermediary", 0, mrz_reader_open(words, MRZ_ROLE_INTERMEDIARY, 0, 0, 1));
+    expect("no output", MRZ_REFUSAL_OUTPUT_TOO_SHORT, mrz_reader_feed(words, bytes, 0, bytes, 0, bytes, 0, out, 0).refusal);
+    expect("open with a limit", 0, mrz_reader_open(words, MRZ_ROLE_ENDPOINT, 1, 0, 1));
+    expect("no gathering buffer", MRZ_REFUSAL_GATHERING_TOO_SHORT, mrz_reader_feed(words, bytes, 0, bytes, 0, bytes, 0, out, 0).refusal);
+    expect("open with addresses", 0, mrz_reader_open(words, MRZ_ROLE_ENDPOINT, 0, 0, 1));
+    expect("no address buffer", MRZ_REFUSAL_ADDRESSES_TOO_SHORT, mrz_reader_feed(words, bytes, 0, bytes, 0, bytes, 0, out, 0).refusal);
+    expect("feed nothing for addresses", 0, mrz_reader_feed(words, bytes, 0, bytes, 0, addresses, sizeof addresses, out, 0).refusal);
 
     expect("open a stream", MRZ_REFUSAL_NO_FREE_PLACE, mrz_stream_open(numbers, 0, out, 0, 4, 1).refusal);
     expect("close a stream", MRZ_REFUSAL_NOT_IN_TABLE, mrz_stream_close(numbers, 0, out, 0, 4, 0).refusal);
@@ -62,6 +69,21 @@ static void calls(const char *where, uint8_t *bytes, uint8_t *out, uint64_t *num
     expect("its bytes", 0, (uint64_t)(written[0] | written[1]));
     expect("frame of nothing", 1, mrz_write_frame(&quarter, 1, &mark, 1, 4, 1, 1, 9, bytes, 0, written, 2, 0).written);
     expect("its byte", 1, written[0]);
+
+    expect("no address is assigned", 1, mrz_address_value_good(MRZ_TYPE_ADDRESS_ASSIGN, bytes, 0));
+    expect("no address is asked for", 0, mrz_address_value_good(MRZ_TYPE_ADDRESS_REQUEST, bytes, 0));
+    expect("no route", 1, mrz_address_value_good(MRZ_TYPE_ROUTE_ADVERTISEMENT, bytes, 0));
+    address = mrz_address_next(bytes, 0, 0);
+    expect("next address", 0, address.found | address.next);
+    route = mrz_route_next(bytes, 0, 0);
+    expect("next route", 0, route.found | route.next);
+    expect("assign into nothing", MRZ_REFUSAL_OUTPUT_TOO_SHORT, mrz_write_address_assign((const mrz_address *)numbers, 0, out, 0, 0).refusal);
+    expect("request of nothing", MRZ_REFUSAL_MALFORMED_TO_WRITE, mrz_write_address_request((const mrz_address *)numbers, 0, out, 0, 0).refusal);
+    expect("routes into nothing", MRZ_REFUSAL_OUTPUT_TOO_SHORT, mrz_write_route_advertisement((const mrz_route *)bytes, 0, out, 0, 0).refusal);
+    expect("assign nothing", 2, mrz_write_address_assign((const mrz_address *)numbers, 0, written, 2, 0).written);
+    expect("its bytes", 0x0100, (uint64_t)(written[0] << 8 | written[1]));
+    expect("no routes", 2, mrz_write_route_advertisement((const mrz_route *)bytes, 0, written, 2, 0).written);
+    expect("its bytes", 0x0300, (uint64_t)(written[0] << 8 | written[1]));
 }
 
 int main(void) {

@@ -1,9 +1,11 @@
-//! Links the peers that bench/calls could build: each variable names the folder of one.
+//! Links the peers that bench/calls could build, and the archive of an earlier state: each variable names the folder of
+//! one.
 
 use std::env;
 
 fn main() {
     for (variable, library, kind, cfg) in [
+        ("BASE_PEER", "maruzhenu_base", "static", "base"),
         ("NGHTTP3_PEER", "nghttp3_peer", "static", "nghttp3"),
         ("QUINN_PEER", "quinn_peer", "dylib", "quinn"),
     ] {
@@ -12,8 +14,9 @@ fn main() {
         if let Ok(folder) = env::var(variable) {
             println!("cargo:rustc-link-search=native={folder}");
             println!("cargo:rustc-link-lib={kind}={library}");
-            if kind == "dylib" {
-                println!("cargo:rustc-link-arg=-Wl,-rpath,{folder}");
+            match kind {
+                "dylib" => println!("cargo:rustc-link-arg=-Wl,-rpath,{folder}"),
+                _ => println!("cargo:rerun-if-changed={folder}/lib{library}.a"),
             }
             println!("cargo:rustc-cfg={cfg}");
         }

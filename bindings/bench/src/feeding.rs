@@ -13,6 +13,8 @@ const LIMIT: usize = 16_384;
 const STREAM: usize = 128 * 1024;
 /// A capsule type that is unknown.
 const UNKNOWN: u8 = 0x17;
+/// An entry of ADDRESS_ASSIGN: request ID 64, 10.0.0.0/8.
+const ENTRY: [u8; 8] = [0x40, 0x40, 4, 10, 0, 0, 0, 8];
 
 /// What is done with the stream.
 #[derive(Clone, Copy, PartialEq, Eq)]
@@ -21,13 +23,18 @@ pub enum Role {
     Endpoint,
     /// Capsules of unknown type passed.
     Intermediary,
+    /// DATAGRAM capsules delivered by an endpoint that takes address capsules.
+    OptedIn,
+    /// ADDRESS_ASSIGN capsules delivered by such an endpoint; lengths are multiples of 8.
+    Addresses,
 }
 
 /// A stream of capsules with values of this length, and how many they are.
 fn stream(role: Role, length: usize) -> (Vec<u8>, usize) {
     let capsule_type = match role {
-        Role::Endpoint => 0x00,
+        Role::Endpoint | Role::OptedIn => 0x00,
         Role::Intermediary => UNKNOWN,
+        Role::Addresses => 0x01,
     };
     let mut header = [0; 8];
     let size = varint::write(length as u64, &mut header, 0).expect("the length can be written");
@@ -36,7 +43,11 @@ fn stream(role: Role, length: usize) -> (Vec<u8>, usize) {
     while stream.len() < STREAM {
         stream.push(capsule_type);
         stream.extend(&header[..size]);
-        stream.extend((0..length).map(|place| (place * 31 + count) as u8));
+        if role == Role::Addresses {
+            stream.extend(ENTRY.repeat(length / ENTRY.len()));
+        } else {
+            stream.extend((0..length).map(|place| (place * 31 + count) as u8));
+        }
         count += 1;
     }
     (stream, count)
@@ -46,24 +57,29 @@ fn stream(role: Role, length: usize) -> (Vec<u8>, usize) {
 macro_rules! pass {
     ($package:ident, $open:path, $feed:path, $stream:expr, $piece:expr, $role:expr, $buffers:expr) => {
         Box::new(|| {
-            let (gathering, output) = &mut *$buffers.borrow_mut();
+            let (gathering, second, output) = &mut *$buffers.borrow_mut();
             // The opening is not known when this is compiled.
             let role = match black_box($role) {
-                Role::Endpoint => $package::Role::Endpoint,
                 Role::Intermediary => $package::Role::Intermediary,
+                _ => $package::Role::Endpoint,
             };
             let limit = black_box(LIMIT as u64);
-            let mut reader = $open(role, limit, black_box(false)).expect("the limit is allowed");
+            let addresses = matches!(black_box($role), Role::OptedIn | Role::Addresses);
+            let draft = black_box(false);
+            let mut reader = $open(role, limit, draft, addresses).expect("the limit is allowed");
             let mut sum = 0;
             for mut piece in $stream.chunks($piece) {
                 while !piece.is_empty() {
-                    let fed =
-                        $feed(&mut reader, piece, gathering, output).expect("the buffers suffice");
+                    let fed = $feed(&mut reader, piece, gathering, second, output)
+                        .expect("the buffers suffice");
                     piece = &piece[fed.consumed..];
                     sum += fed.written as u64;
                     match fed.report {
                         Some($package::Report::Delivered { length }) => sum += length + 1,
-                        Some($package::Report::Passed { length, .. }) => sum += length + 1,
+                        Some(
+                            $package::Report::Passed { length, .. }
+                            | $package::Report::AddressDelivered { length, .. },
+                        ) => sum += length + 1,
                         _ => {}
                     }
                 }
@@ -79,9 +95,10 @@ fn feed_by_call(
     reader: &mut independent::Reader,
     piece: &[u8],
     gathering: &mut [u8],
+    addresses: &mut [u8],
     output: &mut [u8],
 ) -> Result<independent::Fed, independent::Refusal> {
-    reader.feed(piece, gathering, output)
+    reader.feed(piece, gathering, addresses, output)
 }
 
 /// What a reader has to move, call by call: from where in the stream, how many bytes, and to where in the buffer.
@@ -93,7 +110,7 @@ fn moves(role: Role, stream: &[u8], count: usize, length: usize, piece: usize) -
         let capsule_end = at - at % capsule + capsule;
         let end = capsule_end.min(at - at % piece + piece).min(stream.len());
         match role {
-            Role::Endpoint => {
+            Role::Endpoint | Role::OptedIn | Role::Addresses => {
                 let value = capsule_end - length;
                 let from = at.max(value);
                 if from < end {
@@ -116,6 +133,8 @@ pub struct Times {
     pub called: f64,
     /// A bare copy of the bytes that a reader has to move, in the same parts.
     pub copy: f64,
+    /// The archive of an earlier state, where one is linked.
+    pub base: Option<f64>,
     /// The bytes of the stream.
     pub bytes: f64,
 }
@@ -127,7 +146,7 @@ pub fn measure(role: Role, length: usize, piece: usize) -> Times {
     use maruzhenu::Reader as Ours;
     let (stream, count) = stream(role, length);
     let moves = moves(role, &stream, count, length, piece);
-    let buffers = RefCell::new((vec![0; LIMIT], vec![0; piece + 8]));
+    let buffers = RefCell::new((vec![0; LIMIT], vec![0; 1_024], vec![0; piece + 8]));
     let ours: Work = pass!(
         maruzhenu,
         Ours::open,
@@ -156,22 +175,39 @@ pub fn measure(role: Role, length: usize, piece: usize) -> Times {
         buffers
     );
     let copy: Work = Box::new(|| {
-        let (gathering, output) = &mut *buffers.borrow_mut();
+        let (gathering, _, output) = &mut *buffers.borrow_mut();
         let (to, sum) = match role {
-            Role::Endpoint => (gathering, count * (length + 1)),
             Role::Intermediary => (output, count * (length + 1) + stream.len()),
+            _ => (gathering, count * (length + 1)),
         };
         for &[from, size, place] in &moves {
             black_box(&mut to[place..place + size]).copy_from_slice(&stream[from..from + size]);
         }
         sum as u64
     });
-    let times = race(&mut [ours, inlined, called, copy]);
+    let mut sides = vec![ours, inlined, called, copy];
+    // It knows no address capsules.
+    #[cfg(base)]
+    if role != Role::Addresses {
+        use crate::base::Reader as Base;
+        let base: Work = pass!(
+            maruzhenu,
+            Base::open,
+            Base::feed,
+            stream,
+            piece,
+            role,
+            buffers
+        );
+        sides.push(base);
+    }
+    let times = race(&mut sides);
     Times {
         ours: times[0],
         inlined: times[1],
         called: times[2],
         copy: times[3],
+        base: times.get(4).copied(),
         bytes: stream.len() as f64,
     }
 }

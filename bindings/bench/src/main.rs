@@ -1,6 +1,9 @@
 //! Measures the verified library beside plain Rust and other libraries, and prints a table. With a file named, it also
 //! draws nanoseconds per byte over the length of values.
 
+mod addresses;
+#[cfg(base)]
+mod base;
 mod calls;
 mod feeding;
 mod measure;
@@ -47,12 +50,38 @@ fn head() {
 
 fn feeding() {
     head();
-    for (role, name) in [
-        (Role::Endpoint, "endpoint, DATAGRAM delivered"),
-        (Role::Intermediary, "intermediary, unknown capsule passed"),
+    let (pieces, lengths) = (
+        &[64, 1_200, 16_384][..],
+        &[0, 4, 32, 100, 1_000, 1_200, 16_000][..],
+    );
+    for (role, name, pieces, lengths) in [
+        (
+            Role::Endpoint,
+            "endpoint, DATAGRAM delivered",
+            pieces,
+            lengths,
+        ),
+        (
+            Role::Intermediary,
+            "intermediary, unknown capsule passed",
+            pieces,
+            lengths,
+        ),
+        (
+            Role::OptedIn,
+            "endpoint that takes address capsules, DATAGRAM delivered",
+            &[1_200],
+            &[0, 4, 32, 100, 1_000],
+        ),
+        (
+            Role::Addresses,
+            "endpoint, ADDRESS_ASSIGN delivered",
+            &[64, 1_200],
+            &[8, 104, 1_024],
+        ),
     ] {
-        for piece in [64, 1_200, 16_384] {
-            for length in [0, 4, 32, 100, 1_000, 1_200, 16_000] {
+        for &piece in pieces {
+            for &length in lengths {
                 let times = feeding::measure(role, length, piece);
                 let row = |peer, theirs, aim| Row {
                     work: format!("{name}: values of {length}, pieces of {piece}"),
@@ -62,12 +91,17 @@ fn feeding() {
                     unit: "KiB of stream",
                     aim,
                 };
-                row("independent Rust reader", times.inlined, Some(1.0)).print();
+                // Readers that take address capsules have no aim.
+                let aim = matches!(role, Role::Endpoint | Role::Intermediary).then_some(1.0);
+                row("independent Rust reader", times.inlined, aim).print();
                 if piece == 16_384 {
                     row("the same, not inlined", times.called, None).print();
                 }
                 if length == 16_000 {
                     row("bare copy of the same bytes", times.copy, Some(1.15)).print();
+                }
+                if let Some(base) = times.base {
+                    row("the archive before", base, None).print();
                 }
             }
         }
@@ -125,6 +159,7 @@ fn main() -> ExitCode {
     feeding();
     rows("Reading varints", varints::rows());
     rows("Judging, writing", calls::rows());
+    rows("Address capsules", addresses::rows());
     if let Some(path) = arguments.first() {
         if let Err(error) = plot(path) {
             eprintln!("bench: {path}: {error}");

@@ -6,8 +6,16 @@ use maruzhenu::raw::Words;
 
 use crate::lent::{hex, Lent};
 
-/// The fields of an answer in the order of the C interface; those that a call does not have are 0.
-pub type Answer = [u64; 6];
+/// The fields of an answer in the order of the C interface; those that a call does not have are 0. An IP address takes
+/// two fields, its bytes as big-endian numbers.
+pub type Answer = [u64; 8];
+
+/// An answer with these fields.
+pub fn fields<const COUNT: usize>(fields: [u64; COUNT]) -> Answer {
+    let mut answer = [0; 8];
+    answer[..COUNT].copy_from_slice(&fields);
+    answer
+}
 
 /// A table's two rows.
 #[derive(Clone, Debug, PartialEq, Eq)]
@@ -51,11 +59,13 @@ pub enum Call {
         role: u64,
         limit: u64,
         draft: u64,
+        addresses: u64,
     },
     ReaderFeed {
         words: Words,
         piece: Bytes,
         gathering: Lent<u8>,
+        addresses: Lent<u8>,
         output: Lent<u8>,
     },
     ReaderClose {
@@ -96,6 +106,33 @@ pub enum Call {
         out: Lent<u8>,
         place: u64,
     },
+    AddressValueGood {
+        capsule_type: u64,
+        value: Bytes,
+    },
+    AddressNext {
+        value: Bytes,
+        at: u64,
+    },
+    RouteNext {
+        value: Bytes,
+        at: u64,
+    },
+    WriteAddressAssign {
+        addresses: Bytes,
+        out: Lent<u8>,
+        place: u64,
+    },
+    WriteAddressRequest {
+        addresses: Bytes,
+        out: Lent<u8>,
+        place: u64,
+    },
+    WriteRouteAdvertisement {
+        routes: Bytes,
+        out: Lent<u8>,
+        place: u64,
+    },
     SettingError {
         received: u64,
         stored: u64,
@@ -121,14 +158,16 @@ pub enum Call {
 }
 
 /// The functions, the names of their answers' fields, and the refusals that each can give.
-pub const FUNCTIONS: [(&str, &[&str], &[u64]); 17] = [
+pub const FUNCTIONS: [(&str, &[&str], &[u64]); 23] = [
     ("mrz_read_varint", &["value", "size"], &[]),
     ("mrz_write_varint", &["refusal", "written"], &[6, 5]),
     ("mrz_reader_open", &["refusal"], &[3]),
     (
         "mrz_reader_feed",
-        &["refusal", "consumed", "written", "report", "type", "length"],
-        &[1, 2, 4, 5],
+        &[
+            "refusal", "consumed", "written", "report", "type", "length", "error",
+        ],
+        &[1, 2, 4, 18, 5],
     ),
     ("mrz_reader_close", &["refusal", "end", "error"], &[1, 2]),
     (
@@ -153,6 +192,43 @@ pub const FUNCTIONS: [(&str, &[&str], &[u64]); 17] = [
         &["refusal", "written"],
         &[15, 7, 10, 11, 12, 13, 6, 14, 5],
     ),
+    ("mrz_address_value_good", &["good"], &[]),
+    (
+        "mrz_address_next",
+        &[
+            "found",
+            "next",
+            "request ID",
+            "version",
+            "prefix length",
+            "address",
+            "address",
+            "reserved",
+        ],
+        &[],
+    ),
+    (
+        "mrz_route_next",
+        &[
+            "found", "next", "version", "protocol", "start", "start", "end", "end",
+        ],
+        &[],
+    ),
+    (
+        "mrz_write_address_assign",
+        &["refusal", "written"],
+        &[6, 26, 5],
+    ),
+    (
+        "mrz_write_address_request",
+        &["refusal", "written"],
+        &[6, 26, 5],
+    ),
+    (
+        "mrz_write_route_advertisement",
+        &["refusal", "written"],
+        &[26, 5],
+    ),
     ("mrz_setting_error", &["error"], &[]),
     ("mrz_request_malformed", &["malformed"], &[]),
     ("mrz_response_malformed", &["malformed"], &[]),
@@ -176,12 +252,18 @@ impl Call {
             Call::Judge { .. } => 8,
             Call::WriteCapsule { .. } => 9,
             Call::WriteFrame { .. } => 10,
-            Call::SettingError { .. } => 11,
-            Call::RequestMalformed { .. } => 12,
-            Call::ResponseMalformed { .. } => 13,
-            Call::FieldCounts { .. } => 14,
-            Call::FieldInUse { .. } => 15,
-            Call::Translate { .. } => 16,
+            Call::AddressValueGood { .. } => 11,
+            Call::AddressNext { .. } => 12,
+            Call::RouteNext { .. } => 13,
+            Call::WriteAddressAssign { .. } => 14,
+            Call::WriteAddressRequest { .. } => 15,
+            Call::WriteRouteAdvertisement { .. } => 16,
+            Call::SettingError { .. } => 17,
+            Call::RequestMalformed { .. } => 18,
+            Call::ResponseMalformed { .. } => 19,
+            Call::FieldCounts { .. } => 20,
+            Call::FieldInUse { .. } => 21,
+            Call::Translate { .. } => 22,
         }
     }
 
@@ -199,11 +281,21 @@ impl Call {
     pub fn lent(&self) -> Vec<(&'static str, &Lent<u8>)> {
         match self {
             Call::ReaderFeed {
-                gathering, output, ..
-            } => vec![("gathering", gathering), ("output", output)],
+                gathering,
+                addresses,
+                output,
+                ..
+            } => vec![
+                ("gathering", gathering),
+                ("addresses", addresses),
+                ("output", output),
+            ],
             Call::WriteVarint { out, .. }
             | Call::WriteCapsule { out, .. }
-            | Call::WriteFrame { out, .. } => vec![("out", out)],
+            | Call::WriteFrame { out, .. }
+            | Call::WriteAddressAssign { out, .. }
+            | Call::WriteAddressRequest { out, .. }
+            | Call::WriteRouteAdvertisement { out, .. } => vec![("out", out)],
             Call::StreamOpen { table, .. } | Call::StreamClose { table, .. } => {
                 vec![("marks", &table.marks)]
             }

@@ -1,5 +1,6 @@
 //! Calls on all small inputs, and calls made from a seed, in cases of some dozens to some thousands.
 
+mod addresses;
 mod exhaustive;
 mod small;
 mod streams;
@@ -35,10 +36,16 @@ pub enum Kind {
     Listings,
     /// Settings, messages, the Capsule-Protocol field and errors.
     Http,
+    /// Values of address capsules checked and split.
+    AddressValues,
+    /// A list of calls on a reader that takes address capsules.
+    AddressCalls,
+    /// Address capsules written.
+    AddressWriters,
 }
 
 /// One round.
-const ROUND: [Kind; 16] = [
+const ROUND: [Kind; 20] = [
     Kind::Cuts,
     Kind::Calls,
     Kind::Words,
@@ -47,6 +54,8 @@ const ROUND: [Kind; 16] = [
     Kind::Writers,
     Kind::Varints,
     Kind::Calls,
+    Kind::AddressValues,
+    Kind::AddressCalls,
     Kind::Listings,
     Kind::Words,
     Kind::Tables,
@@ -54,6 +63,8 @@ const ROUND: [Kind; 16] = [
     Kind::Frames,
     Kind::Writers,
     Kind::LongValues,
+    Kind::AddressWriters,
+    Kind::AddressCalls,
     Kind::Http,
 ];
 
@@ -79,6 +90,9 @@ pub fn run(seed: u64, number: u64, comparison: &mut Comparison) -> Outcome {
         Kind::Varints => small::varints(random, comparison),
         Kind::Listings => small::listings(random, comparison),
         Kind::Http => small::http(random, comparison),
+        Kind::AddressValues => addresses::values(random, comparison),
+        Kind::AddressCalls => streams::address_calls(random, comparison),
+        Kind::AddressWriters => addresses::writers(random, comparison),
     }
 }
 
@@ -103,6 +117,7 @@ fn border(random: &mut Random) -> u64 {
         64,
         255,
         256,
+        1_024,
         1_200,
         16_383,
         16_384,

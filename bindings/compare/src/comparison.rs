@@ -2,13 +2,14 @@
 
 use std::fmt;
 
+use independent::addresses::{self, AddressType, Malformed};
 use independent::Reader;
 
 use crate::call::{Answer, Call, FUNCTIONS};
 use crate::{expected, verified};
 
 /// The numbers of the refusals, 0 for a call that was not refused.
-const REFUSALS: usize = 18;
+const REFUSALS: usize = 27;
 
 /// Makes calls on both sides and counts them.
 #[derive(Default)]
@@ -17,9 +18,13 @@ pub struct Comparison {
     /// How often each function gave each refusal.
     refusals: [[u64; REFUSALS]; FUNCTIONS.len()],
     /// How often each report, each rule and each end came.
-    reports: [u64; 5],
+    reports: [u64; 7],
     rules: [u64; 9],
     ends: [u64; 3],
+    /// How often looking for an address and for a range found nothing, an entry, no whole entry.
+    entries: [[u64; 3]; 2],
+    /// How often a value that was checked, and a capsule that was read, was malformed for each reason.
+    malformed: [[u64; Malformed::ALL.len()]; 2],
 }
 
 /// Two answers to one call, or what it left, that are not the same.
@@ -56,12 +61,40 @@ impl Comparison {
         self.refusals[function][refusal as usize] += 1;
         if refusal == 0 {
             match call {
-                Call::ReaderFeed { .. } => self.reports[answer[3] as usize] += 1,
+                Call::ReaderFeed { addresses, .. } => {
+                    let [_, _, _, report, capsule_type, length, ..] = answer;
+                    self.reports[report as usize] += 1;
+                    if report == 6 {
+                        // Of a value that was not read so much is known.
+                        let front = usize::try_from(length).ok();
+                        let value = front.and_then(|front| addresses.get().get(..front));
+                        self.count_malformed(1, capsule_type, value);
+                    }
+                }
+                Call::AddressValueGood {
+                    capsule_type,
+                    value,
+                } if answer[0] == 0 => self.count_malformed(0, *capsule_type, Some(&value.0)),
+                Call::AddressNext { .. } => self.entries[0][answer[0] as usize] += 1,
+                Call::RouteNext { .. } => self.entries[1][answer[0] as usize] += 1,
                 Call::Judge { .. } => self.rules[answer[1] as usize] += 1,
                 Call::ReaderClose { .. } => self.ends[answer[1] as usize] += 1,
                 _ => {}
             }
         }
+    }
+
+    /// Counts why a value is malformed; one that is not at hand is too long.
+    fn count_malformed(&mut self, way: usize, capsule_type: u64, value: Option<&[u8]>) {
+        let Some(capsule_type) = AddressType::from_number(capsule_type) else {
+            return;
+        };
+        let why = match value {
+            Some(value) => addresses::check(capsule_type, value).err(),
+            None => Some(Malformed::TooLong),
+        };
+        let place = Malformed::ALL.iter().position(|&one| Some(one) == why);
+        self.malformed[way][place.expect("it is malformed")] += 1;
     }
 
     /// How many calls were made.
@@ -81,7 +114,7 @@ impl Comparison {
     }
 
     /// What should have come and has not: an answer that is not a refusal, each refusal of each function, each report,
-    /// each rule, each end.
+    /// each rule, each end, each outcome of looking for an entry, each reason for which an address capsule is malformed.
     pub fn missing(&self) -> Vec<String> {
         let mut missing = Vec::new();
         for (row, (name, _, refusals)) in self.refusals.iter().zip(FUNCTIONS) {
@@ -98,10 +131,19 @@ impl Comparison {
             ("report", 0, &self.reports[..]),
             ("rule", 1, &self.rules),
             ("end", 1, &self.ends),
+            ("looking for an address: outcome", 0, &self.entries[0]),
+            ("looking for a range: outcome", 0, &self.entries[1]),
         ] {
             for (number, count) in counts.iter().enumerate().skip(first) {
                 if *count == 0 {
                     missing.push(format!("{what} {number} never came"));
+                }
+            }
+        }
+        for (what, counts) in ["checked", "read"].into_iter().zip(&self.malformed) {
+            for (why, count) in Malformed::ALL.iter().zip(counts) {
+                if *count == 0 {
+                    missing.push(format!("no value that was {what} was malformed by {why:?}"));
                 }
             }
         }

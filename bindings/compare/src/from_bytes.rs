@@ -55,11 +55,13 @@ impl Choices<'_> {
 pub fn compare_bytes(bytes: &[u8]) -> Result<(), Box<Difference>> {
     let mut choices = Choices(bytes);
     let mut comparison = Comparison::default();
-    match choices.byte() % 5 {
+    match choices.byte() % 7 {
         0 => reader(&mut choices, &mut comparison, true),
         1 => reader(&mut choices, &mut comparison, false),
         2 => table(&mut choices, &mut comparison),
         3 => datagrams(&mut choices, &mut comparison),
+        4 => address_value(&mut choices, &mut comparison),
+        5 => address_writers(&mut choices, &mut comparison),
         _ => rest(&mut choices, &mut comparison),
     }
 }
@@ -79,6 +81,7 @@ fn reader(
             role: u64::from(flags & 1),
             limit,
             draft: u64::from(flags >> 1 & 1),
+            addresses: u64::from(flags >> 2 & 1),
         };
         let (_, call) = comparison.make(call)?;
         words = *call.words().expect("an opening has words");
@@ -87,6 +90,7 @@ fn reader(
     }
     let limit = usize::try_from(words[1]).map_or(0, |limit| limit.min(65_535));
     let mut gathering = choices.buffer(limit);
+    let mut addresses = choices.buffer(1_024);
     while !choices.0.is_empty() {
         let what = choices.byte();
         let call = match what {
@@ -100,15 +104,18 @@ fn reader(
                 let length = usize::from(what & 0x3f);
                 let piece = choices.bytes(length);
                 let (mut lent, mut room) = (gathering.clone(), piece.len() + 8);
+                let mut second = addresses.clone();
                 match what >> 6 {
                     1 => room -= 1,
                     2 if limit > 0 => lent = Lent::new(&gathering.get()[1..], 0xa5),
+                    3 if what & 1 == 1 => second = Lent::new(&addresses.get()[1..], 0xa5),
                     _ => {}
                 }
                 Call::ReaderFeed {
                     words,
                     piece: Bytes(piece),
                     gathering: lent,
+                    addresses: second,
                     output: choices.buffer(room),
                 }
             }
@@ -118,12 +125,17 @@ fn reader(
         if let (
             0,
             Call::ReaderFeed {
-                gathering: left, ..
+                gathering: left,
+                addresses: second,
+                ..
             },
         ) = (answer[0], call)
         {
             if left.get().len() == limit {
                 gathering = left;
+            }
+            if second.get().len() == 1_024 {
+                addresses = second;
             }
         }
     }
@@ -185,6 +197,61 @@ fn datagrams(choices: &mut Choices, comparison: &mut Comparison) -> Result<(), B
         settings: settings.map(u64::from),
         path,
         payload: bytes,
+        out,
+        place,
+    })?;
+    Ok(())
+}
+
+/// A value checked and split.
+fn address_value(
+    choices: &mut Choices,
+    comparison: &mut Comparison,
+) -> Result<(), Box<Difference>> {
+    let (capsule_type, at) = (choices.number(), choices.number());
+    let value = Bytes(choices.bytes(usize::MAX));
+    for capsule_type in [1, 2, 3, capsule_type] {
+        comparison.make(Call::AddressValueGood {
+            capsule_type,
+            value: value.clone(),
+        })?;
+    }
+    for start in [0, at] {
+        for routes in [false, true] {
+            let (mut found, mut at) = (1, start);
+            while found == 1 {
+                let value = value.clone();
+                let (answer, _) = comparison.make(match routes {
+                    true => Call::RouteNext { value, at },
+                    false => Call::AddressNext { value, at },
+                })?;
+                [found, at, ..] = answer;
+            }
+        }
+    }
+    Ok(())
+}
+
+/// Entries written as each type.
+fn address_writers(
+    choices: &mut Choices,
+    comparison: &mut Comparison,
+) -> Result<(), Box<Difference>> {
+    let (room, place) = (4 * usize::from(choices.byte()), choices.number());
+    let out = choices.buffer(room);
+    let entries = Bytes(choices.bytes(usize::MAX));
+    comparison.make(Call::WriteAddressAssign {
+        addresses: entries.clone(),
+        out: out.clone(),
+        place,
+    })?;
+    comparison.make(Call::WriteAddressRequest {
+        addresses: entries.clone(),
+        out: out.clone(),
+        place,
+    })?;
+    comparison.make(Call::WriteRouteAdvertisement {
+        routes: entries,
         out,
         place,
     })?;

@@ -2,14 +2,14 @@
 
 use maruzhenu::raw;
 
-use crate::call::{Answer, Call};
+use crate::call::{fields, Answer, Call};
 
 /// Makes the call. What is lent to be written is changed in place.
 pub fn answer(call: &mut Call) -> Answer {
     match call {
         Call::ReadVarint { bytes } => {
             let read = raw::read_varint(&bytes.0);
-            [read.value, read.size, 0, 0, 0, 0]
+            fields([read.value, read.size])
         }
         Call::WriteVarint { number, out, place } => {
             written(raw::write_varint(*number, out.get_mut(), *place))
@@ -19,30 +19,34 @@ pub fn answer(call: &mut Call) -> Answer {
             role,
             limit,
             draft,
-        } => one(raw::reader_open(words, *role, *limit, *draft)),
+            addresses,
+        } => one(raw::reader_open(words, *role, *limit, *draft, *addresses)),
         Call::ReaderFeed {
             words,
             piece,
             gathering,
+            addresses,
             output,
         } => {
-            let fed = raw::reader_feed(words, &piece.0, gathering.get_mut(), output.get_mut());
-            [
+            let (gathering, addresses) = (gathering.get_mut(), addresses.get_mut());
+            let fed = raw::reader_feed(words, &piece.0, gathering, addresses, output.get_mut());
+            fields([
                 fed.refusal,
                 fed.consumed,
                 fed.written,
                 fed.report,
                 fed.capsule_type,
                 fed.length,
-            ]
+                fed.error,
+            ])
         }
         Call::ReaderClose { words } => {
             let closed = raw::reader_close(words);
-            [closed.refusal, closed.end, closed.error, 0, 0, 0]
+            fields([closed.refusal, closed.end, closed.error])
         }
         Call::List { bytes } => {
             let list = raw::list(&bytes.0);
-            [list.refusal, list.capsules, list.headers, list.end, 0, 0]
+            fields([list.refusal, list.capsules, list.headers, list.end])
         }
         Call::StreamOpen {
             table,
@@ -51,12 +55,12 @@ pub fn answer(call: &mut Call) -> Answer {
         } => {
             let (quarters, marks) = (table.quarters.get_mut(), table.marks.get_mut());
             let opened = raw::stream_open(quarters, marks, *id, *semantics);
-            [opened.refusal, opened.place, 0, 0, 0, 0]
+            fields([opened.refusal, opened.place])
         }
         Call::StreamClose { table, id, side } => {
             let (quarters, marks) = (table.quarters.get_mut(), table.marks.get_mut());
             let closed = raw::stream_close(quarters, marks, *id, *side);
-            [closed.refusal, closed.freed, 0, 0, 0, 0]
+            fields([closed.refusal, closed.freed])
         }
         Call::Judge {
             table,
@@ -66,14 +70,14 @@ pub fn answer(call: &mut Call) -> Answer {
         } => {
             let (quarters, marks) = (table.quarters.get(), table.marks.get());
             let judged = raw::judge(quarters, marks, *streams, *limit, &frame.0);
-            [
+            fields([
                 judged.refusal,
                 judged.rule,
                 judged.place,
                 judged.start,
                 judged.length,
                 judged.error,
-            ]
+            ])
         }
         Call::WriteCapsule {
             table,
@@ -113,6 +117,62 @@ pub fn answer(call: &mut Call) -> Answer {
                 *place,
             ))
         }
+        Call::AddressValueGood {
+            capsule_type,
+            value,
+        } => one(raw::address_value_good(*capsule_type, &value.0)),
+        Call::AddressNext { value, at } => {
+            let found = raw::address_next(&value.0, *at);
+            let entry = found.address;
+            let [high, low] = halves(entry.address);
+            let reserved = entry.reserved.iter();
+            fields([
+                found.found,
+                found.next,
+                entry.request_id,
+                entry.ip_version.into(),
+                entry.prefix_length.into(),
+                high,
+                low,
+                reserved.fold(0, |number, &byte| number << 8 | u64::from(byte)),
+            ])
+        }
+        Call::RouteNext { value, at } => {
+            let found = raw::route_next(&value.0, *at);
+            let entry = found.route;
+            let ([start, start_low], [end, end_low]) = (halves(entry.start), halves(entry.end));
+            fields([
+                found.found,
+                found.next,
+                entry.ip_version.into(),
+                entry.ip_protocol.into(),
+                start,
+                start_low,
+                end,
+                end_low,
+            ])
+        }
+        Call::WriteAddressAssign {
+            addresses,
+            out,
+            place,
+        } => written(raw::write_address_assign(
+            &addresses.0,
+            out.get_mut(),
+            *place,
+        )),
+        Call::WriteAddressRequest {
+            addresses,
+            out,
+            place,
+        } => written(raw::write_address_request(
+            &addresses.0,
+            out.get_mut(),
+            *place,
+        )),
+        Call::WriteRouteAdvertisement { routes, out, place } => written(
+            raw::write_route_advertisement(&routes.0, out.get_mut(), *place),
+        ),
         Call::SettingError { received, stored } => one(raw::setting_error(*received, *stored)),
         Call::RequestMalformed { fields: [a, b, c] } => one(raw::request_malformed(*a, *b, *c)),
         Call::ResponseMalformed {
@@ -123,22 +183,21 @@ pub fn answer(call: &mut Call) -> Answer {
         Call::FieldInUse { value } => one(raw::field_in_use(&value.0)),
         Call::Translate { error, version } => {
             let translation = raw::translate(*error, *version);
-            [
-                translation.refusal,
-                translation.action,
-                translation.code,
-                0,
-                0,
-                0,
-            ]
+            fields([translation.refusal, translation.action, translation.code])
         }
     }
 }
 
 fn one(number: u64) -> Answer {
-    [number, 0, 0, 0, 0, 0]
+    fields([number])
 }
 
 fn written(written: raw::Written) -> Answer {
-    [written.refusal, written.written, 0, 0, 0, 0]
+    fields([written.refusal, written.written])
+}
+
+/// The bytes of an address as two numbers.
+fn halves(bytes: [u8; 16]) -> [u64; 2] {
+    let number = u128::from_be_bytes(bytes);
+    [(number >> 64) as u64, number as u64]
 }

@@ -5,10 +5,15 @@ use std::fmt;
 
 use crate::random::Random;
 
+mod addresses;
 mod streams;
 #[cfg(test)]
 mod tests;
 
+pub use addresses::{
+    address_stream, address_value, addresses, push_address, push_range, ranges, spoil_addresses,
+    spoil_ranges, spoiled_value,
+};
 use streams::push_filler;
 pub use streams::{capsule_type, long_stream, number_of_any_size, push_number, stream, Form};
 

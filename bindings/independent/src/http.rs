@@ -12,6 +12,7 @@ pub enum Error {
     QuarterTooLarge = 4,
     BeyondLimit = 5,
     BadSetting = 6,
+    Malformed = 7,
 }
 
 /// What an error becomes on a version of HTTP.
@@ -50,21 +51,22 @@ pub fn translate(error: u64, version: u64) -> Result<Action, Refusal> {
         4 => Error::QuarterTooLarge,
         5 => Error::BeyondLimit,
         6 => Error::BadSetting,
+        7 => Error::Malformed,
         _ => return Err(Refusal::UnknownErrorOrVersion),
     };
     match version {
         1 => Ok(match error {
-            Error::Truncated | Error::NoSemantics => Action::Close { code: 0 },
+            Error::Truncated | Error::NoSemantics | Error::Malformed => Action::Close { code: 0 },
             _ => Action::None,
         }),
         2 => Ok(match error {
-            Error::Truncated | Error::NoSemantics => Action::StreamError {
+            Error::Truncated | Error::NoSemantics | Error::Malformed => Action::StreamError {
                 code: PROTOCOL_ERROR,
             },
             _ => Action::None,
         }),
         3 => Ok(match error {
-            Error::Truncated => Action::StreamError {
+            Error::Truncated | Error::Malformed => Action::StreamError {
                 code: MESSAGE_ERROR,
             },
             Error::NoSemantics => Action::StreamError {
@@ -142,13 +144,14 @@ mod tests {
             [Action::None, Action::None, connection(0x33)],
             [Action::None, Action::None, connection(0x0108)],
             [Action::None, Action::None, connection(0x0109)],
+            [close, stream(0x01), stream(0x010e)],
         ];
         for (error, row) in (1..).zip(table) {
             for (version, action) in (1..).zip(row) {
                 assert_eq!(translate(error, version), Ok(action));
             }
         }
-        for (error, version) in [(0, 1), (7, 1), (u64::MAX, 3), (1, 0), (6, 4)] {
+        for (error, version) in [(0, 1), (8, 1), (u64::MAX, 3), (1, 0), (7, 4)] {
             let refused = translate(error, version);
             assert_eq!(refused, Err(Refusal::UnknownErrorOrVersion));
         }

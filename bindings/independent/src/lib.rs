@@ -1,13 +1,14 @@
 //! What HTTP Datagrams ask of a relay, written a second time in plain Rust.
 //!
-//! It was written from RFC 9297, RFC 9000 section 16, and the paper with the exact rules of the project alone, and
-//! shares no code and no table with the verified one. What the papers leave open is the same on both sides by
+//! It was written from RFC 9297, RFC 9000 section 16, RFC 9484 section 4.7, and the papers with the exact rules of the
+//! project alone, and shares no code and no table with the verified one. What the papers leave open is the same on both sides by
 //! agreement: the form of the calls, the numbers of the refusals, and the lines of the listing.
 //!
 //! Beside it stand captures made from a seed, and the means to run a program on a capture.
 
 #![forbid(unsafe_code)]
 
+pub mod addresses;
 pub mod captures;
 pub mod http;
 pub mod judge;

@@ -9,9 +9,9 @@ pub const LIMIT: usize = 1_200;
 /// The size of the blocks in which a capture is read.
 pub const BLOCK: usize = 64 * 1024;
 
-/// Lists the capture `input` as an endpoint, with the draft setting off.
+/// Lists the capture `input` as an endpoint that takes no address capsules, with the draft setting off.
 pub fn list(mut input: impl Read, mut output: impl Write) -> io::Result<()> {
-    let mut reader = Reader::new(Role::Endpoint, LIMIT as u64, false)
+    let mut reader = Reader::new(Role::Endpoint, LIMIT as u64, false, false)
         .expect("the limit of the listing is allowed");
     let mut gather = [0; LIMIT];
     let mut block = vec![0; BLOCK];
@@ -27,7 +27,7 @@ pub fn list(mut input: impl Read, mut output: impl Write) -> io::Result<()> {
         let mut piece = &block[..size];
         while !piece.is_empty() {
             let fed = reader
-                .feed(piece, &mut gather, &mut [])
+                .feed(piece, &mut gather, &mut [], &mut [])
                 .expect("the buffers suffice and the reader is open");
             piece = &piece[fed.consumed..];
             if let Some(report) = &fed.report {
@@ -67,7 +67,9 @@ fn push_report(lines: &mut Vec<u8>, report: &Report) {
             lines.push(b' ');
             push_number(lines, *length);
         }
-        Report::Passed { .. } => unreachable!("an endpoint passes nothing on"),
+        Report::Passed { .. } | Report::AddressDelivered { .. } | Report::Malformed { .. } => {
+            unreachable!("an endpoint passes nothing on, and this one takes no address capsules")
+        }
     }
     lines.push(b'\n');
 }

@@ -1,5 +1,6 @@
 //! The capsule stream reader, RFC 9297 section 3.2.
 
+use crate::addresses::{self, AddressType, LONGEST_VALUE};
 use crate::varint::Arriving;
 use crate::Refusal;
 
@@ -31,6 +32,10 @@ pub enum Report {
     Skipped { capsule_type: u64, length: u64 },
     /// A capsule of unknown type, at an intermediary.
     Passed { capsule_type: u64, length: u64 },
+    /// An address capsule, at an endpoint that takes them; its value stands at the front of the address buffer.
+    AddressDelivered { capsule_type: u64, length: u64 },
+    /// An address capsule that is malformed, at an endpoint that takes them. The reader is finished.
+    Malformed { capsule_type: u64, length: u64 },
 }
 
 /// The answer to an accepted feeding.
@@ -72,6 +77,7 @@ pub struct Reader {
     role: Role,
     limit: u64,
     draft: bool,
+    addresses: bool,
     finished: bool,
     state: State,
     arriving_type: Arriving,
@@ -79,8 +85,9 @@ pub struct Reader {
 }
 
 impl Reader {
-    /// Opens a reader. With `draft`, the DATAGRAM capsule type of draft 05 counts as DATAGRAM too.
-    pub fn new(role: Role, limit: u64, draft: bool) -> Result<Reader, Refusal> {
+    /// Opens a reader. With `draft`, the DATAGRAM capsule type of draft 05 counts as DATAGRAM too. With `addresses`, an
+    /// endpoint takes address capsules.
+    pub fn new(role: Role, limit: u64, draft: bool, addresses: bool) -> Result<Reader, Refusal> {
         if limit > LARGEST_LIMIT {
             return Err(Refusal::LimitTooLarge);
         }
@@ -88,6 +95,7 @@ impl Reader {
             role,
             limit,
             draft,
+            addresses,
             finished: false,
             state: State::Type,
             arriving_type: Arriving::default(),
@@ -97,14 +105,15 @@ impl Reader {
 
     /// Consumes `piece` up to the end of the first capsule that ends in it, or all of it if none does.
     ///
-    /// The value of a DATAGRAM within the limit is stored at the front of `gather`, which the caller hands in
-    /// again until the capsule has ended. An intermediary writes the capsules of unknown type to `out`, byte for
+    /// The value of a DATAGRAM within the limit is stored at the front of `gather`, and that of an address capsule at the
+    /// front of `addresses`; the caller hands both in again until the capsule has ended. An intermediary writes the capsules of unknown type to `out`, byte for
     /// byte as they came, each as soon as its type is known.
     #[inline]
     pub fn feed(
         &mut self,
         piece: &[u8],
         gather: &mut [u8],
+        addresses: &mut [u8],
         out: &mut [u8],
     ) -> Result<Fed, Refusal> {
         if self.finished {
@@ -112,6 +121,9 @@ impl Reader {
         }
         if (gather.len() as u64) < self.limit {
             return Err(Refusal::GatheringBufferTooShort);
+        }
+        if self.takes_addresses() && addresses.len() < LONGEST_VALUE {
+            return Err(Refusal::AddressBufferTooShort);
         }
         if self.role == Role::Intermediary && out.len() < piece.len() + SPARE_OUTPUT {
             return Err(Refusal::OutputTooShort);
@@ -122,7 +134,7 @@ impl Reader {
             consumed,
             capsule_type,
             report,
-        } = self.advance(piece, gather);
+        } = self.advance(piece, gather, addresses);
 
         // All consumed bytes belong to the one capsule that the call began in.
         let mut written = 0;
@@ -158,9 +170,24 @@ impl Reader {
         capsule_type == DATAGRAM || (self.draft && capsule_type == DATAGRAM_OF_DRAFT)
     }
 
+    /// Whether address capsules are something else than capsules of unknown type.
+    #[inline]
+    fn takes_addresses(&self) -> bool {
+        self.addresses && self.role == Role::Endpoint
+    }
+
+    /// The type of an address capsule that this reader takes.
+    #[inline]
+    fn address_type(&self, capsule_type: u64) -> Option<AddressType> {
+        match self.takes_addresses() {
+            true => AddressType::from_number(capsule_type),
+            false => None,
+        }
+    }
+
     /// Reads on to the end of the capsule or of the piece.
     #[inline]
-    fn advance(&mut self, piece: &[u8], gather: &mut [u8]) -> Advance {
+    fn advance(&mut self, piece: &[u8], gather: &mut [u8], addresses: &mut [u8]) -> Advance {
         let mut consumed = 0;
         let (capsule_type, length, left) = match self.state {
             State::Value {
@@ -192,6 +219,16 @@ impl Reader {
             }
         };
 
+        if let Some(address_type) = self.address_type(capsule_type) {
+            let here = &piece[consumed..];
+            let (taken, report) =
+                self.advance_addresses(address_type, length, left, here, addresses);
+            return Advance {
+                consumed: consumed + taken,
+                capsule_type: Some(capsule_type),
+                report,
+            };
+        }
         let is_datagram = self.is_datagram(capsule_type);
         let rest = &piece[consumed..];
         let here = left.min(rest.len() as u64) as usize;
@@ -227,6 +264,51 @@ impl Reader {
             capsule_type: Some(capsule_type),
             report: Some(report),
         }
+    }
+
+    /// Reads on in the value of an address capsule, of which `left` bytes are to come. Answers how many came.
+    #[inline(never)]
+    fn advance_addresses(
+        &mut self,
+        address_type: AddressType,
+        length: u64,
+        left: u64,
+        rest: &[u8],
+        addresses: &mut [u8],
+    ) -> (usize, Option<Report>) {
+        let capsule_type = address_type as u64;
+        // A value that is too long is not read.
+        let too_long = length > LONGEST_VALUE as u64;
+        let mut here = 0;
+        if !too_long {
+            here = left.min(rest.len() as u64) as usize;
+            let place = (length - left) as usize;
+            addresses[place..place + here].copy_from_slice(&rest[..here]);
+            let left = left - here as u64;
+            if left > 0 {
+                self.state = State::Value {
+                    capsule_type,
+                    length,
+                    left,
+                };
+                return (here, None);
+            }
+        }
+        self.state = State::Type;
+        // What stands in the buffer is judged, whoever has put it there.
+        if !too_long && addresses::check(address_type, &addresses[..length as usize]).is_ok() {
+            let report = Report::AddressDelivered {
+                capsule_type,
+                length,
+            };
+            return (here, Some(report));
+        }
+        self.finished = true;
+        let report = Report::Malformed {
+            capsule_type,
+            length,
+        };
+        (here, Some(report))
     }
 }
 

@@ -1,4 +1,4 @@
-//! Why a call was refused, by the numbers of the paper with the exact rules.
+//! Why a call was refused, by the numbers of the papers.
 
 /// Why a call was refused. A refused call changes nothing.
 #[derive(Clone, Copy, Debug, PartialEq, Eq)]
@@ -20,6 +20,8 @@ pub enum Refusal {
     BadTable = 15,
     BufferTooLong = 16,
     UnknownErrorOrVersion = 17,
+    AddressBufferTooShort = 18,
+    MalformedToWrite = 26,
 }
 
 impl Refusal {

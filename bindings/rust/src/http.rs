@@ -17,10 +17,12 @@ pub enum Error {
     BeyondLimit = 5,
     /// A SETTINGS_H3_DATAGRAM that is not allowed.
     BadSetting = 6,
+    /// An address capsule that is malformed.
+    Malformed = 7,
 }
 
 impl Error {
-    /// The number of the error, 1 to 6.
+    /// The number of the error, 1 to 7.
     pub fn number(self) -> u64 {
         self as u64
     }

@@ -11,7 +11,13 @@
 
 mod answers;
 
-pub use answers::{Closed, Fed, Judged, Listing, Opened, SideClosed, Translation, Varint, Written};
+use std::mem::size_of_val;
+use std::slice;
+
+pub use answers::{
+    Address, AddressFound, Closed, Fed, Judged, Listing, Opened, Route, RouteFound, SideClosed,
+    Translation, Varint, Written,
+};
 
 /// The words of a reader.
 pub type Words = [u64; 8];
@@ -22,13 +28,21 @@ mod archive {
     extern "C" {
         pub fn mrz_read_varint(bytes: *const u8, bytes_len: usize) -> Varint;
         pub fn mrz_write_varint(number: u64, out: *mut u8, out_len: usize, place: u64) -> Written;
-        pub fn mrz_reader_open(words: *mut u64, role: u64, limit: u64, draft: u64) -> u64;
+        pub fn mrz_reader_open(
+            words: *mut u64,
+            role: u64,
+            limit: u64,
+            draft: u64,
+            addresses: u64,
+        ) -> u64;
         pub fn mrz_reader_feed(
             words: *mut u64,
             piece: *const u8,
             piece_len: usize,
             gathering: *mut u8,
             gathering_len: usize,
+            addresses: *mut u8,
+            addresses_len: usize,
             output: *mut u8,
             output_len: usize,
         ) -> Fed;
@@ -87,6 +101,31 @@ mod archive {
             out_len: usize,
             place: u64,
         ) -> Written;
+        pub fn mrz_address_value_good(capsule_type: u64, value: *const u8, value_len: usize)
+            -> u64;
+        pub fn mrz_address_next(value: *const u8, value_len: usize, at: u64) -> AddressFound;
+        pub fn mrz_route_next(value: *const u8, value_len: usize, at: u64) -> RouteFound;
+        pub fn mrz_write_address_assign(
+            addresses: *const Address,
+            addresses_size: usize,
+            out: *mut u8,
+            out_len: usize,
+            place: u64,
+        ) -> Written;
+        pub fn mrz_write_address_request(
+            addresses: *const Address,
+            addresses_size: usize,
+            out: *mut u8,
+            out_len: usize,
+            place: u64,
+        ) -> Written;
+        pub fn mrz_write_route_advertisement(
+            routes: *const Route,
+            routes_size: usize,
+            out: *mut u8,
+            out_len: usize,
+            place: u64,
+        ) -> Written;
         pub fn mrz_setting_error(received: u64, stored: u64) -> u64;
         pub fn mrz_request_malformed(
             content_length: u64,
@@ -117,11 +156,11 @@ pub fn write_varint(number: u64, out: &mut [u8], place: u64) -> Written {
     unsafe { archive::mrz_write_varint(number, out.as_mut_ptr(), out.len(), place) }
 }
 
-/// Opens a reader in `words`: role 0 endpoint, any other intermediary; draft 0 off, any other on. Answers the refusal
-/// or 0.
+/// Opens a reader in `words`: role 0 endpoint, any other intermediary; draft and addresses 0 off, any other on. Answers
+/// the refusal or 0.
 #[inline]
-pub fn reader_open(words: &mut Words, role: u64, limit: u64, draft: u64) -> u64 {
-    unsafe { archive::mrz_reader_open(words.as_mut_ptr(), role, limit, draft) }
+pub fn reader_open(words: &mut Words, role: u64, limit: u64, draft: u64, addresses: u64) -> u64 {
+    unsafe { archive::mrz_reader_open(words.as_mut_ptr(), role, limit, draft, addresses) }
 }
 
 /// Feeds a reader.
@@ -130,6 +169,7 @@ pub fn reader_feed(
     words: &mut Words,
     piece: &[u8],
     gathering: &mut [u8],
+    addresses: &mut [u8],
     output: &mut [u8],
 ) -> Fed {
     unsafe {
@@ -139,6 +179,8 @@ pub fn reader_feed(
             piece.len(),
             gathering.as_mut_ptr(),
             gathering.len(),
+            addresses.as_mut_ptr(),
+            addresses.len(),
             output.as_mut_ptr(),
             output.len(),
         )
@@ -260,6 +302,60 @@ pub fn write_frame(
             out.len(),
             place,
         )
+    }
+}
+
+/// Whether a value is well formed for an address capsule of a type, 0 or 1.
+#[inline]
+pub fn address_value_good(capsule_type: u64, value: &[u8]) -> u64 {
+    unsafe { archive::mrz_address_value_good(capsule_type, value.as_ptr(), value.len()) }
+}
+
+/// The entry at a place of an ADDRESS_ASSIGN or ADDRESS_REQUEST value.
+#[inline]
+pub fn address_next(value: &[u8], at: u64) -> AddressFound {
+    unsafe { archive::mrz_address_next(value.as_ptr(), value.len(), at) }
+}
+
+/// The entry at a place of a ROUTE_ADVERTISEMENT value.
+#[inline]
+pub fn route_next(value: &[u8], at: u64) -> RouteFound {
+    unsafe { archive::mrz_route_next(value.as_ptr(), value.len(), at) }
+}
+
+/// The bytes of entries, as the writers of addresses take them.
+#[inline]
+pub fn address_bytes(addresses: &[Address]) -> &[u8] {
+    unsafe { slice::from_raw_parts(addresses.as_ptr().cast(), size_of_val(addresses)) }
+}
+
+/// The bytes of ranges, as the writer of routes takes them.
+#[inline]
+pub fn route_bytes(routes: &[Route]) -> &[u8] {
+    unsafe { slice::from_raw_parts(routes.as_ptr().cast(), size_of_val(routes)) }
+}
+
+/// Writes an ADDRESS_ASSIGN capsule at a place of `out`. `addresses` are the bytes of entries; any number of bytes gets
+/// an answer.
+#[inline]
+pub fn write_address_assign(addresses: &[u8], out: &mut [u8], place: u64) -> Written {
+    let (entries, size) = (addresses.as_ptr().cast(), addresses.len());
+    unsafe { archive::mrz_write_address_assign(entries, size, out.as_mut_ptr(), out.len(), place) }
+}
+
+/// Writes an ADDRESS_REQUEST capsule at a place of `out`, likewise.
+#[inline]
+pub fn write_address_request(addresses: &[u8], out: &mut [u8], place: u64) -> Written {
+    let (entries, size) = (addresses.as_ptr().cast(), addresses.len());
+    unsafe { archive::mrz_write_address_request(entries, size, out.as_mut_ptr(), out.len(), place) }
+}
+
+/// Writes a ROUTE_ADVERTISEMENT capsule at a place of `out`, likewise.
+#[inline]
+pub fn write_route_advertisement(routes: &[u8], out: &mut [u8], place: u64) -> Written {
+    let (entries, size) = (routes.as_ptr().cast(), routes.len());
+    unsafe {
+        archive::mrz_write_route_advertisement(entries, size, out.as_mut_ptr(), out.len(), place)
     }
 }
 

@@ -15,7 +15,8 @@ pub enum Refusal {
     GatheringTooShort = 4,
     /// The output is too short.
     OutputTooShort = 5,
-    /// A number above 2^62-1 to write, a stream limit above 2^60, or a payload above 65,535 bytes to send.
+    /// A number or a request ID above 2^62-1 to write, a stream limit above 2^60, or a payload above 65,535 bytes to
+    /// send.
     NumberTooLarge = 6,
     /// The ID is none of a request stream.
     NotARequestStream = 7,
@@ -39,9 +40,13 @@ pub enum Refusal {
     BufferTooLong = 16,
     /// The number of the error or of the HTTP version is unknown.
     UnknownErrorOrVersion = 17,
+    /// The address buffer of an endpoint that takes address capsules is shorter than 1,024 bytes.
+    AddressesTooShort = 18,
+    /// Entries whose value would be malformed to a reader.
+    MalformedToWrite = 26,
 }
 
-const ALL: [Refusal; 17] = [
+const ALL: [Refusal; 19] = [
     Refusal::NotMakeable,
     Refusal::Finished,
     Refusal::LimitTooLarge,
@@ -59,18 +64,19 @@ const ALL: [Refusal; 17] = [
     Refusal::BadTable,
     Refusal::BufferTooLong,
     Refusal::UnknownErrorOrVersion,
+    Refusal::AddressesTooShort,
+    Refusal::MalformedToWrite,
 ];
 
 impl Refusal {
-    /// The number of the refusal, 1 to 17.
+    /// The number of the refusal.
     pub fn number(self) -> u64 {
         self as u64
     }
 
-    /// The refusal with a number, or `None` for 0 and for a number above 17.
+    /// The refusal with a number, or `None` for 0 and for a number that no refusal has.
     pub fn from_number(number: u64) -> Option<Refusal> {
-        let index = usize::try_from(number.checked_sub(1)?).ok()?;
-        ALL.get(index).copied()
+        ALL.into_iter().find(|refusal| refusal.number() == number)
     }
 
     /// `Ok` where a call was not refused.
@@ -103,6 +109,8 @@ impl fmt::Display for Refusal {
             Refusal::BadTable => "the table is bad",
             Refusal::BufferTooLong => "the buffer to list is longer than 4,096 bytes",
             Refusal::UnknownErrorOrVersion => "the error or the HTTP version is unknown",
+            Refusal::AddressesTooShort => "the address buffer is shorter than 1,024 bytes",
+            Refusal::MalformedToWrite => "the entries make a malformed capsule",
         })
     }
 }
@@ -115,11 +123,11 @@ mod tests {
 
     #[test]
     fn numbers() {
-        for (number, refusal) in (1..).zip(ALL) {
+        for (number, refusal) in (1..=18).chain([26]).zip(ALL) {
             assert_eq!(refusal.number(), number);
             assert_eq!(Refusal::from_number(number), Some(refusal));
         }
-        for number in [0, 18, u64::MAX] {
+        for number in [0, 19, 25, 27, u64::MAX] {
             assert_eq!(Refusal::from_number(number), None);
         }
     }

@@ -1,6 +1,9 @@
 //! Worked cases through the typed calls.
 
-use maruzhenu::http::{self, Error, Fields};
+use std::net::Ipv6Addr;
+
+use maruzhenu::addresses::{self, Address, AddressType, Route};
+use maruzhenu::http::{self, Action, Error, Fields, Version};
 use maruzhenu::{
     list, varint, End, Limits, Reader, Refusal, Report, Role, Sending, Side, StreamId, Table,
     Verdict,
@@ -19,13 +22,15 @@ struct Seen {
 
 /// Feeds the stream in pieces of this size and closes.
 fn read(role: Role, limit: u64, draft: bool, stream: &[u8], size: usize) -> (Seen, End) {
-    let mut reader = Reader::open(role, limit, draft).unwrap();
+    let mut reader = Reader::open(role, limit, draft, false).unwrap();
     let mut gathering = vec![0xaa; limit as usize];
     let mut seen = Seen::default();
     for mut piece in stream.chunks(size) {
         while !piece.is_empty() {
             let mut output = vec![0xbb; piece.len() + Reader::SPARE_OUTPUT];
-            let fed = reader.feed(piece, &mut gathering, &mut output).unwrap();
+            let fed = reader
+                .feed(piece, &mut gathering, &mut [], &mut output)
+                .unwrap();
             assert!(fed.consumed > 0);
             piece = &piece[fed.consumed..];
             seen.forwarded.extend(&output[..fed.written]);
@@ -82,16 +87,16 @@ fn streams() {
 
 #[test]
 fn refused_readings() {
-    let opened = Reader::open(Role::Endpoint, Reader::LARGEST_LIMIT + 1, false);
+    let opened = Reader::open(Role::Endpoint, Reader::LARGEST_LIMIT + 1, false, false);
     assert_eq!(opened, Err(Refusal::LimitTooLarge));
-    let mut reader = Reader::open(Role::Intermediary, 3, false).unwrap();
+    let mut reader = Reader::open(Role::Intermediary, 3, false, false).unwrap();
     let before = reader.clone();
-    let refused = reader.feed(&S, &mut [0; 2], &mut [0; 40]);
+    let refused = reader.feed(&S, &mut [0; 2], &mut [], &mut [0; 40]);
     assert_eq!(refused, Err(Refusal::GatheringTooShort));
-    let refused = reader.feed(&S, &mut [0; 3], &mut [0; 21]);
+    let refused = reader.feed(&S, &mut [0; 3], &mut [], &mut [0; 21]);
     assert_eq!(refused, Err(Refusal::OutputTooShort));
     assert_eq!(reader, before);
-    assert!(reader.feed(&S, &mut [0; 3], &mut [0; 22]).is_ok());
+    assert!(reader.feed(&S, &mut [0; 3], &mut [], &mut [0; 22]).is_ok());
 }
 
 #[test]
@@ -186,6 +191,116 @@ fn numbers_listings_and_http() {
     assert!(http::response_malformed(204, none) && !http::response_malformed(207, none));
     assert!(http::field_counts_on_request() && http::field_counts_on_response(101));
     assert!(!http::field_counts_on_response(300));
+}
+
+/// Feeds an endpoint that takes address capsules in pieces of this size, until a capsule is malformed. Answers the
+/// reports, the last value, and how many bytes were consumed.
+fn read_addresses(stream: &[u8], size: usize) -> (Vec<Report>, Vec<u8>, usize) {
+    let mut reader = Reader::open(Role::Endpoint, 0, false, true).unwrap();
+    let mut buffer = vec![0xaa; addresses::LONGEST_VALUE];
+    let (mut reports, mut value, mut consumed) = (Vec::new(), Vec::new(), 0);
+    for mut piece in stream.chunks(size) {
+        while !piece.is_empty() {
+            let fed = match reader.feed(piece, &mut [], &mut buffer, &mut []) {
+                Ok(fed) => fed,
+                Err(refusal) => {
+                    assert_eq!(refusal, Refusal::Finished);
+                    break;
+                }
+            };
+            piece = &piece[fed.consumed..];
+            consumed += fed.consumed;
+            if let Some(Report::AddressDelivered { length, .. }) = fed.report {
+                value = buffer[..length as usize].to_vec();
+            }
+            reports.extend(fed.report);
+        }
+    }
+    (reports, value, consumed)
+}
+
+#[test]
+fn address_capsules() {
+    let wanted = Address::new(64, [10, 0, 0, 0].into(), 8);
+    let any = Address::new(1, Ipv6Addr::UNSPECIFIED.into(), 128);
+    let mut stream = [0; 64];
+    let requested = addresses::write_address_request(&[wanted, any], &mut stream, 0).unwrap();
+    assert_eq!(requested, 2 + 8 + 19);
+    let stream = &stream[..requested];
+    for size in 1..=stream.len() {
+        let (reports, value, _) = read_addresses(stream, size);
+        let delivered = Report::AddressDelivered {
+            capsule_type: AddressType::Request.number(),
+            length: 27,
+        };
+        assert_eq!((reports, &value[..]), (vec![delivered], &stream[2..]));
+        assert!(addresses::well_formed(AddressType::Request, &value));
+        assert!(!addresses::well_formed(AddressType::Route, &value));
+        let mut entries = addresses::addresses(&value);
+        assert_eq!(entries.next(), Some(wanted));
+        assert_eq!(entries.rest(), &value[8..]);
+        let last = entries.next().unwrap();
+        assert_eq!(last.ip(), Some(Ipv6Addr::UNSPECIFIED.into()));
+        assert_eq!((entries.next(), entries.rest()), (None, &[][..]));
+    }
+    let cut = &stream[2..20];
+    assert_eq!(addresses::addresses(cut).count(), 1);
+    let mut entries = addresses::addresses(cut);
+    assert!(entries.by_ref().count() == 1 && entries.rest() == &cut[8..]);
+
+    let low = Route::v4([10, 0, 0, 0].into(), [10, 0, 0, 9].into(), 17);
+    let high = Route::v6(Ipv6Addr::LOCALHOST, Ipv6Addr::LOCALHOST, 0);
+    let mut out = [0; 64];
+    let written = addresses::write_route_advertisement(&[low, high], &mut out, 3).unwrap();
+    assert_eq!((written, out[3..6].to_vec()), (46, vec![0x03, 44, 4]));
+    let (_, value, _) = read_addresses(&out[3..49], 7);
+    let routes: Vec<Route> = addresses::routes(&value).collect();
+    assert_eq!(routes, [low, high]);
+    let local = Ipv6Addr::LOCALHOST.into();
+    assert_eq!(routes[1].range(), Some((local, local)));
+}
+
+#[test]
+fn malformed_address_capsules() {
+    // Bits beyond the prefix; a length that is too large; a request without an entry.
+    let cases: [(&[u8], (u64, u64), usize); 3] = [
+        (&[0x01, 0x07, 0x00, 4, 10, 0, 0, 1, 8, 0x00], (1, 7), 9),
+        (&[0x03, 0x44, 0x01, 0x00], (3, 1_025), 3),
+        (&[0x02, 0x00, 0x00], (2, 0), 2),
+    ];
+    for (stream, (capsule_type, length), end) in cases {
+        for size in 1..=stream.len() {
+            let (reports, _, consumed) = read_addresses(stream, size);
+            let malformed = Report::Malformed {
+                capsule_type,
+                length,
+            };
+            assert_eq!((&reports[..], consumed), (&[malformed][..], end));
+            let error = malformed.error().unwrap();
+            let reset = Action::StreamError { code: 0x010e };
+            assert_eq!(error.on(Version::Http3), reset);
+        }
+    }
+    let mut reader = Reader::open(Role::Endpoint, 1, false, true).unwrap();
+    let refused = reader.feed(&[], &mut [0; 1], &mut [0; 1_023], &mut []);
+    assert_eq!(refused, Err(Refusal::AddressesTooShort));
+    let refused = reader.feed(&[], &mut [], &mut [], &mut []);
+    assert_eq!(refused, Err(Refusal::GatheringTooShort));
+
+    let mut out = [0xaa; 9];
+    let above = Address::new(varint::LARGEST + 1, [0, 0, 0, 0].into(), 0);
+    let wrong = Address::new(1, [0, 0, 0, 1].into(), 0);
+    let refused = addresses::write_address_assign(&[wrong, above], &mut out, 99);
+    assert_eq!(refused, Err(Refusal::NumberTooLarge));
+    let refused = addresses::write_address_assign(&[wrong], &mut out, 99);
+    assert_eq!(refused, Err(Refusal::MalformedToWrite));
+    let refused = addresses::write_address_request(&[], &mut out, 99);
+    assert_eq!(refused, Err(Refusal::MalformedToWrite));
+    let refused = addresses::write_address_assign(&[], &mut out, 8);
+    assert_eq!(refused, Err(Refusal::OutputTooShort));
+    assert_eq!(out, [0xaa; 9]);
+    assert_eq!(addresses::write_address_assign(&[], &mut out, 7), Ok(2));
+    assert_eq!(out[6..], [0xaa, 0x01, 0x00]);
 }
 
 /// What the header says of the stack, on the buffer with the most capsules.

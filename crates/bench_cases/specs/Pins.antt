@@ -1,9 +1,9 @@
--- Cases that fix a reading of document 01 where no starred bench case does. One statement carries them: `Pinned`.
+-- Cases that fix a reading of documents 01 and 02 where no starred bench case does. One statement carries them: `Pinned`.
 use Prim.Native.Nat.{ℕ, _+_, _-_, _^_}
 use mathlib.Core.Path.{_≡_}
 use mathlib.Core.Bool.{Bool, true, false}
 use mathlib.Core.List.{List, [], _∷_, _++_}
-use lib.ListN.{replicate}
+use lib.ListN.{length, replicate}
 use Rattle.refusals.specs.Numbers.{refusal}
 use Rattle.wire.specs.declared.varint.Varint.{Varint}
 use Rattle.wire.specs.declared.varint.Varint.the-variants.{Incomplete, Whole}
@@ -20,10 +20,12 @@ use Rattle.wire.specs.declared.partial.Partial.{Partial}
 use Rattle.wire.specs.declared.partial.Taken.{Taken}
 use Rattle.wire.specs.declared.partial.Taken.the-variants.{Impossible, More, Ends}
 use Rattle.wire.specs.Partial.{partial, takeVarint}
+use Rattle.addresses.specs.Cases.{many}
 use Rattle.capsule.specs.declared.opening.Role.{Role}
 use Rattle.capsule.specs.declared.opening.Role.the-variants.{Endpoint, Intermediary}
 use Rattle.capsule.specs.declared.opening.Opening.{Opening}
-use Rattle.capsule.specs.declared.opening.Report.the-variants.{Delivered, Dropped, Skipped, Passed}
+use Rattle.capsule.specs.declared.opening.Report.{Report}
+use Rattle.capsule.specs.declared.opening.Report.the-variants.{Delivered, Dropped, Skipped, Passed, AddressDelivered, Malformed}
 use Rattle.capsule.specs.declared.reader.Phase.{Phase}
 use Rattle.capsule.specs.declared.reader.Phase.the-variants.{InType, InLength, InValue}
 use Rattle.capsule.specs.declared.reader.Reader.{Reader}
@@ -35,7 +37,8 @@ use Rattle.capsule.specs.declared.reader.FeedAnswer.the-variants as fedAs
 use Rattle.capsule.specs.declared.reader.CloseAnswer.{CloseAnswer}
 use Rattle.capsule.specs.declared.reader.CloseAnswer.the-variants as closedAs
 use Rattle.capsule.specs.Calls.{Lent, lent, Call, feed, close, Reply, refused, fed, closed, run}
-use Rattle.capsule.specs.Reader.{opening, fresh, openOf, Feeding, feeding, feedOf, closing, closeOf, readerCall}
+use Rattle.capsule.specs.Book.{newBook, bookCall}
+use Rattle.capsule.specs.Reader.{opening, fresh, openOf, isMakeable, Feeding, feeding, feedOf, closing, closeOf, readerCall}
 use Rattle.bench_cases.specs.Starred.{Outcome, outcomeOf, outcome, S}
 use Rattle.streams.specs.declared.record.StreamRecord.{StreamRecord}
 use Rattle.streams.specs.Records.{blank, opened}
@@ -57,13 +60,15 @@ pub data Pin : Type 0 where
   -- a part of a varint, and what it comes to by more bytes
   takes : Partial → List ℕ → Taken → Pin
   -- what a whole stream comes to
-  lists : (role : Role) (limit : ℕ) (draft : Bool) (bytes : List ℕ) → Outcome → Pin
+  lists : (role : Role) (limit : ℕ) (draft addresses : Bool) (bytes : List ℕ) → Outcome → Pin
   -- opening a reader
-  opens : (role : Role) (limit : ℕ) (draft : Bool) → Opened → Pin
+  opens : (role : Role) (limit : ℕ) (draft addresses : Bool) → Opened → Pin
+  -- a state, and whether it can be made
+  makeable : Reader → Bool → Pin
   -- a state, a piece and buffers; the state, the answer and the buffers afterwards
   feeds : Reader → (piece : List ℕ) → Lent → Reader → FeedAnswer → Lent → Pin
   closes : Reader → Reader → CloseAnswer → Pin
-  -- calls on a reader that was just opened, and their answers
+  -- calls on a book and on a reader that were just opened, and their answers
   answers : Opening → List Call → List Reply → Pin
   -- a table, the stated stream limit, the datagram limit and a frame's payload: how it is judged, and the payload that is delivered
   judges : (table : Table) (streams limit : ℕ) (frame : List ℕ) → Judged → (payload : List ℕ) → Pin
@@ -84,11 +89,12 @@ Holds (writes n out place r after) = writeVarint n out place ≡ writing r after
 Holds (quarters id r) = quarterOf (record { 0 = id }) ≡ r
 Holds (streams q r) = streamOf (record { 0 = q }) ≡ r
 Holds (takes p s r) = takeVarint p s ≡ r
-Holds (lists role limit draft bytes o) = outcomeOf role limit draft bytes ≡ o
-Holds (opens role limit draft r) = openOf role limit draft ≡ r
+Holds (lists role limit draft addresses bytes o) = outcomeOf (opening role limit draft addresses) bytes ≡ o
+Holds (opens role limit draft addresses r) = openOf role limit draft addresses ≡ r
+Holds (makeable r b) = isMakeable r ≡ b
 Holds (feeds r p b r′ a b′) = feedOf r p b ≡ feeding r′ a b′
 Holds (closes r r′ a) = closeOf r ≡ closing r′ a
-Holds (answers op cs rs) = run readerCall (fresh op) cs .1 ≡ rs
+Holds (answers op cs rs) = (run bookCall (newBook op) cs .1 ≡ rs) × (run readerCall (fresh op) cs .1 ≡ rs)
 Holds (judges t n limit bytes j payload) = (judgedOf t n limit bytes ≡ j) × (payloadOf t n limit bytes ≡ payload)
 Holds (capsules t id payload out place r after) = writeCapsule t (record { 0 = id }) payload out place ≡ writing r after
 Holds (frames t id ours peers path payload out place r after) = writeFrame t (record { 0 = id }) ours peers path payload out place ≡ writing r after
@@ -162,10 +168,17 @@ onTheWire =
 -- ---- capsule streams
 
 abbrev endpoint : ℕ → Opening
-endpoint limit = opening Endpoint limit false
+endpoint limit = opening Endpoint limit false false
 
 abbrev pub intermediary : ℕ → Opening
-intermediary limit = opening Intermediary limit false
+intermediary limit = opening Intermediary limit false false
+
+-- an endpoint that takes address capsules, and an intermediary that says so
+abbrev pub optedIn : Bool → Opening
+optedIn draft = opening Endpoint 4 draft true
+
+abbrev passing : Opening
+passing = opening Intermediary 4 false true
 
 abbrev state : Opening → Phase → Bool → Reader
 state op phase finished = record { opening = op; phase = phase; finished = finished }
@@ -176,42 +189,42 @@ nines n = replicate n 9
 abbrev pub onStreams : List Pin
 onStreams =
     -- the draft type counts in any encoding, and only it
-    lists Endpoint 9 true (0xc0 ∷ 0 ∷ 0 ∷ 0 ∷ 0 ∷ 0xff ∷ 0x37 ∷ 0xa5 ∷ 1 ∷ 0x7a ∷ []) (outcome (Delivered 1 ∷ []) ((0x7a ∷ []) ∷ []) [] closedAs.Clean)
-    ∷ lists Endpoint 9 false (0xc0 ∷ 0 ∷ 0 ∷ 0 ∷ 0 ∷ 0xff ∷ 0x37 ∷ 0xa5 ∷ 1 ∷ 0x7a ∷ []) (outcome (Skipped 16725925 1 ∷ []) [] [] closedAs.Clean)
-    ∷ lists Endpoint 9 true (0x80 ∷ 0xff ∷ 0x37 ∷ 0xa4 ∷ 1 ∷ 0x7a ∷ []) (outcome (Skipped 16725924 1 ∷ []) [] [] closedAs.Clean)
+    lists Endpoint 9 true false (0xc0 ∷ 0 ∷ 0 ∷ 0 ∷ 0 ∷ 0xff ∷ 0x37 ∷ 0xa5 ∷ 1 ∷ 0x7a ∷ []) (outcome (Delivered 1 ∷ []) ((0x7a ∷ []) ∷ []) [] closedAs.Clean)
+    ∷ lists Endpoint 9 false false (0xc0 ∷ 0 ∷ 0 ∷ 0 ∷ 0 ∷ 0xff ∷ 0x37 ∷ 0xa5 ∷ 1 ∷ 0x7a ∷ []) (outcome (Skipped 16725925 1 ∷ []) [] [] closedAs.Clean)
+    ∷ lists Endpoint 9 true false (0x80 ∷ 0xff ∷ 0x37 ∷ 0xa4 ∷ 1 ∷ 0x7a ∷ []) (outcome (Skipped 16725924 1 ∷ []) [] [] closedAs.Clean)
     -- the limit itself is within the limit
-    ∷ opens Endpoint 65535 false (opened.Ready (fresh (endpoint 65535)))
-    ∷ opens Endpoint 65536 false (opened.Refused (refusal 3))
-    ∷ lists Endpoint 3 false S (outcome (Delivered 3 ∷ Skipped 23 0 ∷ Skipped 64 2 ∷ Delivered 0 ∷ []) ((0x61 ∷ 0x62 ∷ 0x63 ∷ []) ∷ [] ∷ []) [] closedAs.Clean)
-    ∷ lists Endpoint 0 false (0 ∷ 0 ∷ []) (outcome (Delivered 0 ∷ []) ([] ∷ []) [] closedAs.Clean)
-    ∷ lists Endpoint 0 false (0 ∷ 1 ∷ 5 ∷ []) (outcome (Dropped 1 ∷ []) [] [] closedAs.Clean)
+    ∷ opens Endpoint 65535 false false (opened.Ready (fresh (endpoint 65535)))
+    ∷ opens Endpoint 65536 false false (opened.Refused (refusal 3))
+    ∷ lists Endpoint 3 false false S (outcome (Delivered 3 ∷ Skipped 23 0 ∷ Skipped 64 2 ∷ Delivered 0 ∷ []) ((0x61 ∷ 0x62 ∷ 0x63 ∷ []) ∷ [] ∷ []) [] closedAs.Clean)
+    ∷ lists Endpoint 0 false false (0 ∷ 0 ∷ []) (outcome (Delivered 0 ∷ []) ([] ∷ []) [] closedAs.Clean)
+    ∷ lists Endpoint 0 false false (0 ∷ 1 ∷ 5 ∷ []) (outcome (Dropped 1 ∷ []) [] [] closedAs.Clean)
     -- a reserved type is unknown; a zero length in two bytes ends a capsule
-    ∷ lists Intermediary 9 false (0x40 ∷ 0x40 ∷ 0 ∷ 0x17 ∷ 0x40 ∷ 0 ∷ []) (outcome (Passed 64 0 ∷ Passed 23 0 ∷ []) [] (0x40 ∷ 0x40 ∷ 0 ∷ 0x17 ∷ 0x40 ∷ 0 ∷ []) closedAs.Clean)
-    ∷ lists Endpoint 9 false (0 ∷ 0x40 ∷ 0 ∷ []) (outcome (Delivered 0 ∷ []) ([] ∷ []) [] closedAs.Clean)
+    ∷ lists Intermediary 9 false false (0x40 ∷ 0x40 ∷ 0 ∷ 0x17 ∷ 0x40 ∷ 0 ∷ []) (outcome (Passed 64 0 ∷ Passed 23 0 ∷ []) [] (0x40 ∷ 0x40 ∷ 0 ∷ 0x17 ∷ 0x40 ∷ 0 ∷ []) closedAs.Clean)
+    ∷ lists Endpoint 9 false false (0 ∷ 0x40 ∷ 0 ∷ []) (outcome (Delivered 0 ∷ []) ([] ∷ []) [] closedAs.Clean)
     -- with the draft setting on type 0 counts as before; an intermediary takes the draft type, too
-    ∷ lists Endpoint 9 true (0 ∷ 1 ∷ 5 ∷ []) (outcome (Delivered 1 ∷ []) ((5 ∷ []) ∷ []) [] closedAs.Clean)
-    ∷ lists Intermediary 9 true (0x80 ∷ 0xff ∷ 0x37 ∷ 0xa5 ∷ 1 ∷ 0x7a ∷ []) (outcome (Delivered 1 ∷ []) ((0x7a ∷ []) ∷ []) [] closedAs.Clean)
-    ∷ lists Intermediary 9 false (0x80 ∷ 0xff ∷ 0x37 ∷ 0xa5 ∷ 1 ∷ 0x7a ∷ []) (outcome (Passed 16725925 1 ∷ []) [] (0x80 ∷ 0xff ∷ 0x37 ∷ 0xa5 ∷ 1 ∷ 0x7a ∷ []) closedAs.Clean)
+    ∷ lists Endpoint 9 true false (0 ∷ 1 ∷ 5 ∷ []) (outcome (Delivered 1 ∷ []) ((5 ∷ []) ∷ []) [] closedAs.Clean)
+    ∷ lists Intermediary 9 true false (0x80 ∷ 0xff ∷ 0x37 ∷ 0xa5 ∷ 1 ∷ 0x7a ∷ []) (outcome (Delivered 1 ∷ []) ((0x7a ∷ []) ∷ []) [] closedAs.Clean)
+    ∷ lists Intermediary 9 false false (0x80 ∷ 0xff ∷ 0x37 ∷ 0xa5 ∷ 1 ∷ 0x7a ∷ []) (outcome (Passed 16725925 1 ∷ []) [] (0x80 ∷ 0xff ∷ 0x37 ∷ 0xa5 ∷ 1 ∷ 0x7a ∷ []) closedAs.Clean)
     -- an empty piece: nothing happens, or the refusal of any other
-    ∷ feeds (fresh (intermediary 2)) [] (lent (nines 2) (nines 8)) (fresh (intermediary 2)) (fedAs.Took 0 0 Nothing) (lent (nines 2) (nines 8))
-    ∷ feeds (fresh (intermediary 2)) [] (lent (nines 1) (nines 8)) (fresh (intermediary 2)) (fedAs.Refused (refusal 4)) (lent (nines 1) (nines 8))
-    ∷ feeds (fresh (intermediary 2)) [] (lent (nines 2) (nines 7)) (fresh (intermediary 2)) (fedAs.Refused (refusal 5)) (lent (nines 2) (nines 7))
-    ∷ feeds (state (intermediary 2) (InType (partial 0 0)) true) [] (lent [] []) (state (intermediary 2) (InType (partial 0 0)) true) (fedAs.Refused (refusal 2)) (lent [] [])
+    ∷ feeds (fresh (intermediary 2)) [] (lent (nines 2) [] (nines 8)) (fresh (intermediary 2)) (fedAs.Took 0 0 Nothing) (lent (nines 2) [] (nines 8))
+    ∷ feeds (fresh (intermediary 2)) [] (lent (nines 1) [] (nines 8)) (fresh (intermediary 2)) (fedAs.Refused (refusal 4)) (lent (nines 1) [] (nines 8))
+    ∷ feeds (fresh (intermediary 2)) [] (lent (nines 2) [] (nines 7)) (fresh (intermediary 2)) (fedAs.Refused (refusal 5)) (lent (nines 2) [] (nines 7))
+    ∷ feeds (state (intermediary 2) (InType (partial 0 0)) true) [] (lent [] [] []) (state (intermediary 2) (InType (partial 0 0)) true) (fedAs.Refused (refusal 2)) (lent [] [] [])
     -- 4 and 5 go by the lengths alone, and 4 stands first; exactly piece + 8
-    ∷ feeds (fresh (intermediary 2)) (5 ∷ []) (lent (nines 1) []) (fresh (intermediary 2)) (fedAs.Refused (refusal 4)) (lent (nines 1) [])
-    ∷ feeds (fresh (intermediary 2)) (5 ∷ []) (lent (nines 2) (nines 8)) (fresh (intermediary 2)) (fedAs.Refused (refusal 5)) (lent (nines 2) (nines 8))
-    ∷ feeds (fresh (intermediary 2)) (5 ∷ []) (lent (nines 2) (nines 9)) (state (intermediary 2) (InLength 5 (partial 0 0)) false) (fedAs.Took 1 1 Nothing) (lent (nines 2) (5 ∷ nines 8))
-    ∷ feeds (fresh (endpoint 0)) (5 ∷ []) (lent [] []) (state (endpoint 0) (InLength 5 (partial 0 0)) false) (fedAs.Took 1 0 Nothing) (lent [] [])
-    ∷ feeds (fresh (endpoint 1)) (5 ∷ []) (lent [] []) (fresh (endpoint 1)) (fedAs.Refused (refusal 4)) (lent [] [])
+    ∷ feeds (fresh (intermediary 2)) (5 ∷ []) (lent (nines 1) [] []) (fresh (intermediary 2)) (fedAs.Refused (refusal 4)) (lent (nines 1) [] [])
+    ∷ feeds (fresh (intermediary 2)) (5 ∷ []) (lent (nines 2) [] (nines 8)) (fresh (intermediary 2)) (fedAs.Refused (refusal 5)) (lent (nines 2) [] (nines 8))
+    ∷ feeds (fresh (intermediary 2)) (5 ∷ []) (lent (nines 2) [] (nines 9)) (state (intermediary 2) (InLength 5 (partial 0 0)) false) (fedAs.Took 1 1 Nothing) (lent (nines 2) [] (5 ∷ nines 8))
+    ∷ feeds (fresh (endpoint 0)) (5 ∷ []) (lent [] [] []) (state (endpoint 0) (InLength 5 (partial 0 0)) false) (fedAs.Took 1 0 Nothing) (lent [] [] [])
+    ∷ feeds (fresh (endpoint 1)) (5 ∷ []) (lent [] [] []) (fresh (endpoint 1)) (fedAs.Refused (refusal 4)) (lent [] [] [])
     -- a partial value stands at its places, the rest as lent; a longer one stores nothing
-    ∷ feeds (fresh (endpoint 6)) (0 ∷ 5 ∷ 0x61 ∷ 0x62 ∷ []) (lent (nines 7) []) (state (endpoint 6) (InValue 0 5 3) false) (fedAs.Took 4 0 Nothing) (lent (0x61 ∷ 0x62 ∷ nines 5) [])
-    ∷ feeds (state (endpoint 6) (InValue 0 5 3) false) (0x63 ∷ 0x64 ∷ 0x65 ∷ 0x66 ∷ []) (lent (0x61 ∷ 0x62 ∷ nines 5) []) (fresh (endpoint 6)) (fedAs.Took 3 0 (Capsule (Delivered 5))) (lent (0x61 ∷ 0x62 ∷ 0x63 ∷ 0x64 ∷ 0x65 ∷ nines 2) [])
-    ∷ feeds (fresh (endpoint 1)) (0 ∷ 2 ∷ 0x61 ∷ []) (lent (nines 2) []) (state (endpoint 1) (InValue 0 2 1) false) (fedAs.Took 3 0 Nothing) (lent (nines 2) [])
+    ∷ feeds (fresh (endpoint 6)) (0 ∷ 5 ∷ 0x61 ∷ 0x62 ∷ []) (lent (nines 7) [] []) (state (endpoint 6) (InValue 0 5 3) false) (fedAs.Took 4 0 Nothing) (lent (0x61 ∷ 0x62 ∷ nines 5) [] [])
+    ∷ feeds (state (endpoint 6) (InValue 0 5 3) false) (0x63 ∷ 0x64 ∷ 0x65 ∷ 0x66 ∷ []) (lent (0x61 ∷ 0x62 ∷ nines 5) [] []) (fresh (endpoint 6)) (fedAs.Took 3 0 (Capsule (Delivered 5))) (lent (0x61 ∷ 0x62 ∷ 0x63 ∷ 0x64 ∷ 0x65 ∷ nines 2) [] [])
+    ∷ feeds (fresh (endpoint 1)) (0 ∷ 2 ∷ 0x61 ∷ []) (lent (nines 2) [] []) (state (endpoint 1) (InValue 0 2 1) false) (fedAs.Took 3 0 Nothing) (lent (nines 2) [] [])
     ∷ closes (state (endpoint 6) (InValue 0 5 3) false) (state (endpoint 6) (InValue 0 5 3) true) closedAs.Truncated
     -- the last byte of the longest value reports the full length
-    ∷ feeds (state (endpoint 6) (InValue 5 (2 ^ 62 - 1) 1) false) (7 ∷ 8 ∷ []) (lent (nines 6) []) (fresh (endpoint 6)) (fedAs.Took 1 0 (Capsule (Skipped 5 (2 ^ 62 - 1)))) (lent (nines 6) [])
+    ∷ feeds (state (endpoint 6) (InValue 5 (2 ^ 62 - 1) 1) false) (7 ∷ 8 ∷ []) (lent (nines 6) [] []) (fresh (endpoint 6)) (fedAs.Took 1 0 (Capsule (Skipped 5 (2 ^ 62 - 1)))) (lent (nines 6) [] [])
     -- a header is not read out of a value
-    ∷ feeds (state (endpoint 6) (InValue 5 3 2) false) (0 ∷ 0 ∷ 0 ∷ 0 ∷ []) (lent (nines 6) []) (fresh (endpoint 6)) (fedAs.Took 2 0 (Capsule (Skipped 5 3))) (lent (nines 6) [])
+    ∷ feeds (state (endpoint 6) (InValue 5 3 2) false) (0 ∷ 0 ∷ 0 ∷ 0 ∷ []) (lent (nines 6) [] []) (fresh (endpoint 6)) (fedAs.Took 2 0 (Capsule (Skipped 5 3))) (lent (nines 6) [] [])
     -- a clean close inside a header, and between capsules
     ∷ closes (state (endpoint 6) (InType (partial 1 0x40)) false) (state (endpoint 6) (InType (partial 1 0x40)) true) closedAs.Truncated
     ∷ closes (state (endpoint 6) (InLength 5 (partial 0 0)) false) (state (endpoint 6) (InLength 5 (partial 0 0)) true) closedAs.Truncated
@@ -219,7 +232,7 @@ onStreams =
     ∷ closes (state (endpoint 6) (InType (partial 0 0)) true) (state (endpoint 6) (InType (partial 0 0)) true) (closedAs.Refused (refusal 2))
     ∷ []
 
--- states that cannot be made: refused with 1, before 2, 4 and 5, and handed back
+-- states that cannot be made: refused with 1, before 2, 4, 18 and 5, and handed back
 abbrev pub unmakeable : List Reader
 unmakeable =
     state (endpoint 0) (InType (partial 0 1)) false
@@ -234,19 +247,24 @@ unmakeable =
     ∷ state (endpoint 0) (InValue 5 3 0) false
     ∷ state (endpoint 0) (InValue 5 3 4) false
     ∷ state (endpoint 65536) (InType (partial 0 0)) false
+    ∷ state (optedIn false) (InValue 1 1025 1) false
     ∷ []
 
 abbrev pub bothRefused : List Reader → List Pin
 bothRefused [] = []
 bothRefused (r ∷ rs) =
-    feeds r (1 ∷ []) (lent (nines 1) (nines 2)) r (fedAs.Refused (refusal 1)) (lent (nines 1) (nines 2))
+    feeds r (1 ∷ []) (lent (nines 1) [] (nines 2)) r (fedAs.Refused (refusal 1)) (lent (nines 1) [] (nines 2))
     ∷ closes r r (closedAs.Refused (refusal 1))
     ∷ bothRefused rs
 
 -- ---- lists of calls
 
+-- the second buffer holds `front`, and is long enough
+abbrev holding : List ℕ → List ℕ → Call
+holding front p = feed p (lent (nines 4) (front ++ nines (1024 - length front)) (nines 40))
+
 abbrev lends : List ℕ → Call
-lends p = feed p (lent (nines 4) (nines 20))
+lends p = holding [] p
 
 -- a type of eight bytes, byte by byte: held up to the last, and then written whole
 abbrev eightByOne : List Call
@@ -257,12 +275,12 @@ nothing = fed 1 0 [] Nothing []
 
 abbrev pub refusedBetween : List Call
 refusedBetween =
-    feed (0 ∷ 2 ∷ 0x61 ∷ []) (lent (nines 4) (nines 20))
-    ∷ feed (0x62 ∷ []) (lent (nines 3) (nines 20))
-    ∷ feed (0x62 ∷ []) (lent (nines 4) (nines 8))
-    ∷ feed (0x62 ∷ 0x63 ∷ []) (lent (0x61 ∷ nines 3) (nines 20))
+    feed (0 ∷ 2 ∷ 0x61 ∷ []) (lent (nines 4) [] (nines 20))
+    ∷ feed (0x62 ∷ []) (lent (nines 3) [] (nines 20))
+    ∷ feed (0x62 ∷ []) (lent (nines 4) [] (nines 8))
+    ∷ feed (0x62 ∷ 0x63 ∷ []) (lent (0x61 ∷ nines 3) [] (nines 20))
     ∷ close
-    ∷ feed (1 ∷ []) (lent [] [])
+    ∷ feed (1 ∷ []) (lent [] [] [])
     ∷ close
     ∷ []
 
@@ -275,6 +293,114 @@ onLists =
     -- refused calls between good ones: 4, 5, and 2 after the close though the buffers are short
     ∷ answers (intermediary 4) refusedBetween
     (fed 3 0 [] Nothing [] ∷ refused (refusal 4) ∷ refused (refusal 5) ∷ fed 1 0 [] (Capsule (Delivered 2)) (0x61 ∷ 0x62 ∷ []) ∷ closed closedAs.Clean ∷ refused (refusal 2) ∷ refused (refusal 2) ∷ [])
+    ∷ []
+
+-- ---- address capsules (document 02, request 4)
+
+-- an ADDRESS_ASSIGN of one entry, and one of another IP version
+abbrev assign : List ℕ
+assign = 0 ∷ 4 ∷ 0x0a ∷ 0 ∷ 0 ∷ 1 ∷ 0x20 ∷ []
+
+abbrev otherVersion : List ℕ
+otherVersion = 0 ∷ 5 ∷ 0 ∷ 0 ∷ 0 ∷ 0 ∷ 0 ∷ []
+
+-- an ADDRESS_REQUEST of one entry
+abbrev request : List ℕ
+request = 1 ∷ 4 ∷ 0x0a ∷ 0 ∷ 0 ∷ 1 ∷ 0x20 ∷ []
+
+abbrev route : List ℕ
+route = 4 ∷ 0x0a ∷ 0 ∷ 0 ∷ 0 ∷ 0x0a ∷ 0 ∷ 0 ∷ 0xff ∷ 0 ∷ []
+
+abbrev ends : ℕ → Report → Reply
+ends n r = fed n 0 [] (Capsule r) []
+
+-- refused calls between good ones: 18, then 2 after a malformed capsule though the buffers are short
+abbrev pub shortBetween : List Call
+shortBetween =
+    lends (2 ∷ 7 ∷ 1 ∷ [])
+    ∷ feed (4 ∷ []) (lent (nines 4) (nines 1023) (nines 40))
+    ∷ holding (1 ∷ []) (4 ∷ 0x0a ∷ 0 ∷ 0 ∷ 1 ∷ 0x20 ∷ 2 ∷ 0 ∷ [])
+    ∷ holding request (2 ∷ 0 ∷ 0 ∷ [])
+    ∷ feed [] (lent [] [] [])
+    ∷ close
+    ∷ []
+
+-- the second buffer is changed inside a value: by what the reader is lent the capsule is malformed, by what it was fed it is good
+abbrev pub changedBetween : List Call
+changedBetween = lends (2 ∷ 7 ∷ 1 ∷ []) ∷ holding (0 ∷ []) (4 ∷ 0x0a ∷ 0 ∷ 0 ∷ 1 ∷ 0x20 ∷ []) ∷ []
+
+pub record Exchange : Type 0 where
+  pub calls : List Call
+  pub replies : List Reply
+
+abbrev exchange : List Call → List Reply → Exchange
+exchange cs rs = record { calls = cs; replies = rs }
+
+-- calls on an endpoint that opted in, and their answers, whatever its draft setting
+abbrev pub exchanges : List Exchange
+exchanges =
+    -- no entry: of a REQUEST malformed at its length field, and nothing after it is consumed; of the others good
+    exchange (lends (2 ∷ 0 ∷ 0 ∷ 0 ∷ []) ∷ close ∷ lends [] ∷ []) (ends 2 (Malformed 2 0) ∷ refused (refusal 2) ∷ refused (refusal 2) ∷ [])
+    ∷ exchange (lends (1 ∷ 0 ∷ 3 ∷ []) ∷ lends (3 ∷ 0 ∷ []) ∷ close ∷ []) (ends 2 (AddressDelivered 1 0) ∷ ends 2 (AddressDelivered 3 0) ∷ closed closedAs.Clean ∷ [])
+    -- over 1,024 bytes: at its length field, in one piece and cut in it
+    ∷ exchange (lends (1 ∷ 0x44 ∷ 1 ∷ 0 ∷ 0 ∷ []) ∷ close ∷ []) (ends 3 (Malformed 1 1025) ∷ refused (refusal 2) ∷ [])
+    ∷ exchange (lends (1 ∷ 0x44 ∷ []) ∷ lends (1 ∷ 0 ∷ []) ∷ close ∷ []) (fed 2 0 [] Nothing [] ∷ ends 1 (Malformed 1 1025) ∷ refused (refusal 2) ∷ [])
+    ∷ exchange (lends (3 ∷ replicate 8 0xff) ∷ lends [] ∷ []) (ends 9 (Malformed 3 (2 ^ 62 - 1)) ∷ refused (refusal 2) ∷ [])
+    -- else at its last byte, though an earlier one is wrong; a good one with its value
+    ∷ exchange (lends (1 ∷ 7 ∷ otherVersion ++ (0x17 ∷ 0 ∷ [])) ∷ close ∷ []) (ends 9 (Malformed 1 7) ∷ refused (refusal 2) ∷ [])
+    ∷ exchange (lends (1 ∷ 7 ∷ 0 ∷ 5 ∷ []) ∷ holding (0 ∷ 5 ∷ []) (0 ∷ 0 ∷ 0 ∷ 0 ∷ []) ∷ holding (0 ∷ 5 ∷ 0 ∷ 0 ∷ 0 ∷ 0 ∷ []) (0 ∷ []) ∷ close ∷ [])
+    (fed 4 0 [] Nothing [] ∷ fed 4 0 [] Nothing [] ∷ ends 1 (Malformed 1 7) ∷ refused (refusal 2) ∷ [])
+    ∷ exchange (lends (1 ∷ 7 ∷ assign ++ (0 ∷ [])) ∷ lends (0 ∷ 1 ∷ 0x61 ∷ []) ∷ lends (3 ∷ 0x0a ∷ route) ∷ close ∷ [])
+    (fed 9 0 [] (Capsule (AddressDelivered 1 7)) assign ∷ fed 3 0 [] (Capsule (Delivered 1)) (0x61 ∷ []) ∷ fed 12 0 [] (Capsule (AddressDelivered 3 10)) route ∷ closed closedAs.Clean ∷ [])
+    ∷ exchange shortBetween
+    (fed 3 0 [] Nothing [] ∷ refused (refusal 18) ∷ fed 6 0 [] (Capsule (AddressDelivered 2 7)) request ∷ ends 2 (Malformed 2 0) ∷ refused (refusal 2) ∷ refused (refusal 2) ∷ [])
+    -- a type counts in any encoding, and only 1, 2 and 3; a value that is cut is not malformed
+    ∷ exchange (lends (0x40 ∷ 3 ∷ 0 ∷ []) ∷ lends (4 ∷ 0 ∷ []) ∷ lends (1 ∷ 7 ∷ 0 ∷ 5 ∷ []) ∷ close ∷ [])
+    (ends 3 (AddressDelivered 3 0) ∷ ends 2 (Skipped 4 0) ∷ fed 4 0 [] Nothing [] ∷ closed closedAs.Truncated ∷ [])
+    -- 18 after 4, by the length alone, of an empty piece too
+    ∷ exchange (feed [] (lent (nines 4) (nines 1023) []) ∷ feed [] (lent (nines 3) (nines 1023) []) ∷ feed [] (lent (nines 4) (nines 1024) []) ∷ [])
+    (refused (refusal 18) ∷ refused (refusal 4) ∷ fed 0 0 [] Nothing [] ∷ [])
+    ∷ []
+
+abbrev pub answersOf : Opening → List Exchange → List Pin
+answersOf op [] = []
+answersOf op (t ∷ ts) = answers op (t .calls) (t .replies) ∷ answersOf op ts
+
+abbrev pub onAddresses : List Pin
+onAddresses =
+    -- 18 is for endpoints that opted in; others skip or pass, with the second buffer empty
+    answers (endpoint 4) (feed (1 ∷ 1 ∷ 0 ∷ []) (lent (nines 4) [] []) ∷ []) (ends 3 (Skipped 1 1) ∷ [])
+    ∷ answers passing (feed (2 ∷ 0 ∷ 2 ∷ []) (lent (nines 4) [] (nines 11)) ∷ []) (fed 2 2 (2 ∷ 0 ∷ []) (Capsule (Passed 2 0)) [] ∷ [])
+    ∷ answers (intermediary 4) (feed (2 ∷ 0 ∷ 2 ∷ []) (lent (nines 4) [] (nines 11)) ∷ []) (fed 2 2 (2 ∷ 0 ∷ []) (Capsule (Passed 2 0)) [] ∷ [])
+    -- with the draft setting its type is DATAGRAM, as before
+    ∷ answers (optedIn true) (lends (0x80 ∷ 0xff ∷ 0x37 ∷ 0xa5 ∷ 1 ∷ 0x7a ∷ []) ∷ []) (fed 6 0 [] (Capsule (Delivered 1)) (0x7a ∷ []) ∷ [])
+    ∷ answers (optedIn false) (lends (0x80 ∷ 0xff ∷ 0x37 ∷ 0xa5 ∷ 1 ∷ 0x7a ∷ []) ∷ []) (ends 6 (Skipped 16725925 1) ∷ [])
+    -- 1,025 bytes are skipped by an endpoint that did not opt in, and passed by an intermediary whether it did or not
+    ∷ lists Endpoint 4 false false (1 ∷ 0x44 ∷ 1 ∷ nines 1025) (outcome (Skipped 1 1025 ∷ []) [] [] closedAs.Clean)
+    ∷ lists Intermediary 4 false false (1 ∷ 0x44 ∷ 1 ∷ nines 1025) (outcome (Passed 1 1025 ∷ []) [] (1 ∷ 0x44 ∷ 1 ∷ nines 1025) closedAs.Clean)
+    ∷ lists Intermediary 4 false true (1 ∷ 0x44 ∷ 1 ∷ nines 1025) (outcome (Passed 1 1025 ∷ []) [] (1 ∷ 0x44 ∷ 1 ∷ nines 1025) closedAs.Clean)
+    ∷ feeds (fresh (endpoint 4)) (1 ∷ 0x44 ∷ 1 ∷ nines 1025) (lent (nines 4) [] []) (fresh (endpoint 4)) (fedAs.Took 1028 0 (Capsule (Skipped 1 1025))) (lent (nines 4) [] [])
+    ∷ feeds (fresh passing) (1 ∷ 0x44 ∷ 1 ∷ nines 1025) (lent (nines 4) [] (replicate 1036 0)) (fresh passing) (fedAs.Took 1028 1028 (Capsule (Passed 1 1025))) (lent (nines 4) [] ((1 ∷ 0x44 ∷ 1 ∷ nines 1025) ++ replicate 8 0))
+    -- the longest value: 128 entries
+    ∷ lists Endpoint 4 false true (1 ∷ 0x44 ∷ 0 ∷ many 128 []) (outcome (AddressDelivered 1 1024 ∷ []) [] [] closedAs.Clean)
+    ∷ feeds (fresh (optedIn false)) (1 ∷ 0x44 ∷ 0 ∷ many 128 []) (lent (nines 4) (nines 1024) []) (fresh (optedIn false)) (fedAs.Took 1027 0 (Capsule (AddressDelivered 1 1024))) (lent (nines 4) (many 128 []) [])
+    -- all bytes of a value are stored, byte i at place i and the rest as lent, before it is judged; nothing of one that is too long
+    ∷ feeds (fresh (optedIn false)) (1 ∷ 7 ∷ otherVersion) (lent (nines 4) (nines 1024) []) (state (optedIn false) (InType (partial 0 0)) true) (fedAs.Took 9 0 (Capsule (Malformed 1 7))) (lent (nines 4) (otherVersion ++ nines 1017) [])
+    ∷ feeds (state (optedIn false) (InValue 1 7 3) false) (8 ∷ []) (lent (nines 4) (nines 1024) []) (state (optedIn false) (InValue 1 7 2) false) (fedAs.Took 1 0 Nothing) (lent (nines 4) (9 ∷ 9 ∷ 9 ∷ 9 ∷ 8 ∷ nines 1019) [])
+    ∷ feeds (fresh (optedIn false)) (1 ∷ 0x44 ∷ 1 ∷ 8 ∷ 8 ∷ []) (lent (nines 4) (nines 1024) []) (state (optedIn false) (InType (partial 0 0)) true) (fedAs.Took 3 0 (Capsule (Malformed 1 1025))) (lent (nines 4) (nines 1024) [])
+    -- opening takes the setting for both roles, and 3 stands as before
+    ∷ opens Endpoint 65535 true true (opened.Ready (fresh (opening Endpoint 65535 true true)))
+    ∷ opens Intermediary 65535 false true (opened.Ready (fresh (opening Intermediary 65535 false true)))
+    ∷ opens Endpoint 65536 false true (opened.Refused (refusal 3))
+    -- an endpoint that opted in is never in an address value of more than 1,024 bytes
+    ∷ makeable (state (optedIn false) (InValue 1 1025 1) false) false
+    ∷ makeable (state (optedIn true) (InValue 3 1025 1) false) false
+    ∷ makeable (state (optedIn false) (InValue 1 1024 1024) false) true
+    ∷ makeable (state (optedIn false) (InLength 1 (partial 1 0x44)) false) true
+    ∷ makeable (state (optedIn false) (InType (partial 0 0)) true) true
+    ∷ makeable (state (optedIn false) (InValue 4 1025 1) false) true
+    ∷ makeable (state passing (InValue 1 1025 1) false) true
+    ∷ makeable (state (endpoint 4) (InValue 1 1025 1) false) true
     ∷ []
 
 -- ---- tables, payloads, writers
@@ -371,5 +497,11 @@ onFrames =
     ∷ rules (judged.Delivered 0) (some 8) true
     ∷ []
 
+-- the finished marks then differ, so that demand 3 needs its premise on the second buffer
+abbrev pub PremiseNeeded : Type 0
+PremiseNeeded =
+    (run readerCall (fresh (optedIn false)) changedBetween .0 .finished ≡ true)
+    × (run bookCall (newBook (optedIn false)) changedBetween .0 .mark ≡ false)
+
 abbrev pub Pinned : Type 0
-Pinned = All onTheWire × All onStreams × All (bothRefused unmakeable) × All onLists × All onFrames
+Pinned = All onTheWire × All onStreams × All (bothRefused unmakeable) × All onLists × ((draft : Bool) → All (answersOf (optedIn draft) exchanges)) × All onAddresses × All onFrames

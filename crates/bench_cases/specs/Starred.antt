@@ -6,14 +6,14 @@ use mathlib.Core.List.{List, [], _∷_, _++_, map}
 use lib.ListN.{length, take}
 use Rattle.capsule.specs.declared.opening.Role.{Role}
 use Rattle.capsule.specs.declared.opening.Role.the-variants.{Endpoint, Intermediary}
+use Rattle.capsule.specs.declared.opening.Opening.{Opening}
 use Rattle.capsule.specs.declared.opening.Report.{Report}
 use Rattle.capsule.specs.declared.opening.Report.the-variants.{Delivered, Dropped, Skipped, Passed}
 use Rattle.capsule.specs.declared.reader.CloseAnswer.{CloseAnswer}
 use Rattle.capsule.specs.declared.reader.CloseAnswer.the-variants.{Clean, Truncated}
-use Rattle.capsule.specs.Grammar.{parts}
-use Rattle.capsule.specs.Book.{forwarded, reported, endOf}
+use Rattle.capsule.specs.Book.{partsFor, forwarded, reported, endOf}
 use Rattle.capsule.specs.Reader.{opening}
-use Rattle.capsule_laws.specs.Claims.{delivered}
+use Rattle.capsule_laws.specs.Claims.{ifDelivered, delivered}
 use Rattle.wire.specs.declared.units.Quarter.{Quarter}
 use Rattle.streams.specs.Records.{blank, opened}
 use Rattle.streams.specs.Tables.{Table}
@@ -29,18 +29,19 @@ pub record Outcome : Type 0 where
   pub writes : List ℕ
   pub ending : CloseAnswer
 
-unfoldable pub outcomeOf : Role → ℕ → Bool → List ℕ → Outcome
-outcomeOf role limit draft s = record {
-  reports = map (reported (opening role limit draft)) (parts s .capsules);
-  payloads = delivered (opening role limit draft) (parts s .capsules);
-  writes = forwarded (opening role limit draft) s;
-  ending = endOf (parts s .tail);
+unfoldable pub outcomeOf : Opening → List ℕ → Outcome
+outcomeOf op s = record {
+  reports = map (reported op) (partsFor op s .capsules);
+  payloads = delivered ifDelivered op (partsFor op s .capsules);
+  writes = forwarded op s;
+  ending = endOf (partsFor op s .tail);
 }
 
 abbrev pub outcome : List Report → List (List ℕ) → List ℕ → CloseAnswer → Outcome
 outcome reports payloads writes ending = record { reports = reports; payloads = payloads; writes = writes; ending = ending }
 
 pub data Case : Type 0 where
+  -- read by a reader that takes no address capsules
   stream : (role : Role) (limit : ℕ) (draft : Bool) (bytes : List ℕ) → Outcome → Case
   -- a frame's payload against a table, the stated stream limit and the datagram limit: how it is judged, and the payload that is delivered
   frame : (table : Table) (streams limit : ℕ) (bytes : List ℕ) → Judged → (payload : List ℕ) → Case
@@ -48,7 +49,7 @@ pub data Case : Type 0 where
   header : (length : ℕ) (bytes : List ℕ) → Case
 
 abbrev pub Holds : Case → Type 0
-Holds (stream role limit draft bytes o) = outcomeOf role limit draft bytes ≡ o
+Holds (stream role limit draft bytes o) = outcomeOf (opening role limit draft false) bytes ≡ o
 Holds (frame t streams limit bytes j payload) = (judgedOf t streams limit bytes ≡ j) × (payloadOf t streams limit bytes ≡ payload)
 Holds (header n bytes) = (payload : List ℕ) → length payload ≡ n → capsuleBytes payload ≡ bytes ++ payload
 

@@ -17,26 +17,27 @@ use Rattle.capsule.specs.declared.reader.Reader.{Reader}
 use Rattle.capsule.specs.declared.reader.Opened.{Opened}
 use Rattle.capsule.specs.declared.reader.Opened.the-variants as openedAs
 use Rattle.capsule.specs.declared.opening.Role.{Role}
-use Rattle.capsule.specs.declared.opening.Report.the-variants.{Delivered, Dropped, Skipped, Passed}
+use Rattle.capsule.specs.declared.opening.Opening.{Opening}
+use Rattle.capsule.specs.declared.opening.Report.the-variants.{Delivered, Dropped, Skipped, Passed, AddressDelivered, Malformed}
 use Rattle.capsule.specs.declared.reader.Ended.{Ended}
 use Rattle.capsule.specs.declared.reader.Ended.the-variants.{Nothing, Capsule}
 use Rattle.capsule.specs.declared.reader.FeedAnswer.{FeedAnswer}
 use Rattle.capsule.specs.declared.reader.FeedAnswer.the-variants as fedAs
 use Rattle.capsule.specs.declared.reader.CloseAnswer.{CloseAnswer}
 use Rattle.capsule.specs.declared.reader.CloseAnswer.the-variants as closedAs
-use Rattle.capsule.specs.Book.{Book, newBook, bookCall}
-use Rattle.capsule.specs.Calls.{Lent, Call, feed, close, run}
+use Rattle.capsule.specs.Book.{newBook}
+use Rattle.capsule.specs.Calls.{Lent, close, run}
 use Rattle.capsule.specs.Reader.{opening, openOf, isOpening, isMakeablePhase, isMakeable, feedOf, endAt, closing, closeOf, readerCall}
-use Rattle.capsule.specs.State.{ofBook}
-use Rattle.capsule_laws.specs.Claims.{CallBytes}
 use Rattle.capsule_laws.proofs.Lists.{made-book, open-fresh, fresh-book, fresh-open}
-use Rattle.capsule_laws.proofs.Makeable.{written, state-calls, refused-unchanged}
+use Rattle.capsule_laws.proofs.Makeable.{stays-makeable, calls-makeable, refused-unchanged}
+use Rattle.http.specs.Errors.{number}
+use Rattle.http.specs.Ties.{reportError}
 use Rattle.capi.specs.declared.words.Loaded.{Loaded}
 use Rattle.capi.specs.declared.words.Loaded.the-variants as loaded
-use Rattle.capi.specs.Numbers.{roleOf, flagOf}
+use Rattle.capi.specs.Numbers.{roleOf, flagOf, errorNumber}
 use Rattle.capi.specs.Words.{wordsOf, readerIn}
-use Rattle.capi.specs.Reader.{openedAt, openWords, FeedDone, fedReport, fedTook, fedAnswer, wordsFed, fedBy, feedLoaded, feedWords, CloseDone, closedAnswer, wordsClosed, closeRefusal, closedBy, closeLoaded, closeWords}
-use Rattle.capi.specs.Claims.{HaveIsByte, NotZero, OpenedSo, RefusedReaderLeaves, OpenKept, FeedKept, CloseKept, ReaderKept}
+use Rattle.capi.specs.Reader.{openedAt, openWords, FeedDone, reportNumber, fedReport, fedTook, fedAnswer, wordsFed, fedBy, feedLoaded, feedWords, CloseDone, closedAnswer, wordsClosed, closeRefusal, closedBy, closeLoaded, closeWords}
+use Rattle.capi.specs.Claims.{HaveIsByte, NotZero, OpenedSo, RefusedReaderLeaves, MalformedError, OpenKept, FeedKept, CloseKept, ReaderKept}
 use Rattle.capi.proofs.StoredForm.{stored-read}
 use Rattle.capi.proofs.Nonzero.{numbered-refusals}
 
@@ -55,10 +56,7 @@ module _ (ws p : List ℕ) (b : Lent) where
     where
       go : (x : Ended) → fedAnswer (fedAs.Took consumed written x) .refusal ≡ 0
       go Nothing = unfold fedAnswer fedTook in refl
-      go (Capsule (Delivered m)) = unfold fedAnswer fedTook fedReport in refl
-      go (Capsule (Dropped m)) = unfold fedAnswer fedTook fedReport in refl
-      go (Capsule (Skipped t m)) = unfold fedAnswer fedTook fedReport in refl
-      go (Capsule (Passed t m)) = unfold fedAnswer fedTook fedReport in refl
+      go (Capsule report) = unfold fedAnswer fedTook fedReport in refl
 
   loaded-leaves : (x : Loaded) → (feedLoaded ws p b x .answer .refusal ≡ 0 → ⊥) → (feedLoaded ws p b x .words ≡ ws) × (feedLoaded ws p b x .buffers ≡ b)
   unfolding feedLoaded fedBy
@@ -78,48 +76,56 @@ close-leaves ws (loaded.Is r) n = go (closeOf r .answer) n
 pub refused-reader-leaves : RefusedReaderLeaves
 unfolding openWords feedWords closeWords
 refused-reader-leaves ws = (
-  λ role limit draft n. opened-leaves ws (openOf (roleOf role) limit (flagOf draft)) n,
+  λ role limit draft addresses n. opened-leaves ws (openOf (roleOf role) limit (flagOf draft) (flagOf addresses)) n,
   λ p b n. loaded-leaves ws p b (readerIn ws) n,
   λ n. close-leaves ws (readerIn ws) n,
 )
 
+-- ---- errors
+
+ended-error : (consumed written : ℕ) (x : Ended) → fedTook consumed written x .error ≡ cond (eqb (fedTook consumed written x .report) 6) 7 0
+unfolding fedTook fedReport reportNumber reportError errorNumber number
+ended-error consumed written Nothing = refl
+ended-error consumed written (Capsule (Delivered n)) = refl
+ended-error consumed written (Capsule (Dropped n)) = refl
+ended-error consumed written (Capsule (Skipped t n)) = refl
+ended-error consumed written (Capsule (Passed t n)) = refl
+ended-error consumed written (Capsule (AddressDelivered t n)) = refl
+ended-error consumed written (Capsule (Malformed t n)) = refl
+
+pub malformed-error : MalformedError
+unfolding fedAnswer
+malformed-error (fedAs.Refused why) = refl
+malformed-error (fedAs.Took consumed written ended) = ended-error consumed written ended
+
 -- ---- a state that can be made is kept
 
-have-byte : (x : Phase) → isMakeablePhase x ≡ true → HaveIsByte x
+have-byte : (op : Opening) (x : Phase) → isMakeablePhase op x ≡ true → HaveIsByte x
 unfolding isMakeablePhase isPartial
-have-byte (InType part) m = omega (arith, starts-le (part .have) (part .raw) m)
-have-byte (InLength t part) m = omega (arith, starts-le (part .have) (part .raw) (parted (leb t largest) (isPartial part) m .1))
-have-byte (InValue t n left) m = tt
+have-byte op (InType part) m = omega (arith, starts-le (part .have) (part .raw) m)
+have-byte op (InLength t part) m = omega (arith, starts-le (part .have) (part .raw) (parted (leb t largest) (isPartial part) m .1))
+have-byte op (InValue t n left) m = tt
 
 makeable-read : (r : Reader) → isMakeable r ≡ true → readerIn (wordsOf r) ≡ loaded.Is r
 unfolding isMakeable
-makeable-read r m = stored-read r (have-byte (r .phase) (parted (isOpening (r .opening)) (isMakeablePhase (r .phase)) m .1))
+makeable-read r m = stored-read r (have-byte (r .opening) (r .phase) (parted (isOpening (r .opening)) (isMakeablePhase (r .opening) (r .phase)) m .1))
 
-stays-makeable : (r : Reader) (c : Call) → isMakeable r ≡ true → CallBytes c → isMakeable (readerCall r c .0) ≡ true
-unfolding run ofBook
-stays-makeable r c m h =
-    let w = written r m in
-    let k : Book = record { opening = r .opening; stream = w .stream; mark = r .finished } in
-    let s = state-calls k (c ∷ []) (record { accepted = w .accepted; bytes = w .bytes }) (h, tt) in
-    let e : readerCall r c .0 ≡ ofBook (run bookCall k (c ∷ []) .0) = ap (λ (x : Reader). readerCall x c .0) (sym (w .is)) ∙ s .0 in
-    rw e (made-book (run bookCall k (c ∷ []) .0) (s .1))
-
-open-makeable : (role : Role) (limit : ℕ) (draft : Bool) (r : Reader) → openOf role limit draft ≡ openedAs.Ready r → isMakeable r ≡ true
-open-makeable role limit draft r e =
-    let f = open-fresh role limit draft r e in
-    let op = opening role limit draft in
+open-makeable : (role : Role) (limit : ℕ) (draft addresses : Bool) (r : Reader) → openOf role limit draft addresses ≡ openedAs.Ready r → isMakeable r ≡ true
+open-makeable role limit draft addresses r e =
+    let f = open-fresh role limit draft addresses r e in
+    let op = opening role limit draft addresses in
     rw (f .1 ∙ fresh-book op) (made-book (newBook op) (fresh-open op (f .0)))
 
 pub open-kept : OpenKept
 unfolding openWords
-open-kept ws role limit draft z = go (openOf (roleOf role) limit (flagOf draft)) refl z
+open-kept ws role limit draft addresses z = go (openOf (roleOf role) limit (flagOf draft) (flagOf addresses)) refl z
   where
-    go : (o : Opened) → openOf (roleOf role) limit (flagOf draft) ≡ o → openedAt ws o .answer ≡ 0
-        → (r : Reader) × (openOf (roleOf role) limit (flagOf draft) ≡ openedAs.Ready r) × (openedAt ws o .words ≡ wordsOf r) × (isMakeable r ≡ true)
+    go : (o : Opened) → openOf (roleOf role) limit (flagOf draft) (flagOf addresses) ≡ o → openedAt ws o .answer ≡ 0
+        → (r : Reader) × (openOf (roleOf role) limit (flagOf draft) (flagOf addresses) ≡ openedAs.Ready r) × (openedAt ws o .words ≡ wordsOf r) × (isMakeable r ≡ true)
     go (openedAs.Refused why) e n =
-        let so : NotZero why = subst (λ (x : Opened). OpenedSo x) e (numbered-refusals .opens (roleOf role) limit (flagOf draft)) in
+        let so : NotZero why = subst (λ (x : Opened). OpenedSo x) e (numbered-refusals .opens (roleOf role) limit (flagOf draft) (flagOf addresses)) in
         absurd (so (unfold openedAt in n))
-    go (openedAs.Ready r) e n = (r, e, unfold openedAt in refl, open-makeable (roleOf role) limit (flagOf draft) r e)
+    go (openedAs.Ready r) e n = (r, e, unfold openedAt in refl, open-makeable (roleOf role) limit (flagOf draft) (flagOf addresses) r e)
 
 module _ (r : Reader) (m : isMakeable r ≡ true) where
   fed-words : (p : List ℕ) (b : Lent) (x : FeedAnswer) → feedOf r p b .answer ≡ x → wordsFed (wordsOf r) (feedOf r p b .reader) x ≡ wordsOf (feedOf r p b .reader)
@@ -128,14 +134,14 @@ module _ (r : Reader) (m : isMakeable r ≡ true) where
   fed-words p b (fedAs.Took consumed written ended) e = refl
 
   feed-kept : (p : List ℕ) (b : Lent) → Bytes p → FeedKept r p b
-  unfolding feedWords readerCall
+  unfolding feedWords
   feed-kept p b h =
       let e : feedWords (wordsOf r) p b ≡ fedBy (wordsOf r) (feedOf r p b) = unfold feedLoaded in ap (feedLoaded (wordsOf r) p b) (makeable-read r m) in
       record {
         answer = ap (λ (d : FeedDone). d .answer) e ∙ unfold fedBy in refl;
         words = ap (λ (d : FeedDone). d .words) e ∙ unfold fedBy in fed-words p b (feedOf r p b .answer) refl;
         buffers = ap (λ (d : FeedDone). d .buffers) e ∙ unfold fedBy in refl;
-        makeable = stays-makeable r (feed p b) m h;
+        makeable = stays-makeable r p b h m;
       }
 
   ended-words : (x : Phase) (r′ : Reader) → wordsClosed (wordsOf r) r′ (endAt x) ≡ wordsOf r′
@@ -157,13 +163,13 @@ module _ (r : Reader) (m : isMakeable r ≡ true) where
       go false = ended-words (r .phase) (record { opening = r .opening; phase = r .phase; finished = true })
 
   close-kept : CloseKept r
-  unfolding closeWords readerCall
+  unfolding closeWords run readerCall
   close-kept =
       let e : closeWords (wordsOf r) ≡ closedBy (wordsOf r) (closeOf r) = unfold closeLoaded in ap (closeLoaded (wordsOf r)) (makeable-read r m) in
       record {
         answer = ap (λ (d : CloseDone). d .answer) e ∙ unfold closedBy in refl;
         words = ap (λ (d : CloseDone). d .words) e ∙ unfold closedBy in closed-words;
-        makeable = stays-makeable r close m tt;
+        makeable = calls-makeable r (close ∷ []) (tt, tt) m;
       }
 
 pub reader-kept : ReaderKept

@@ -1,5 +1,7 @@
 pub mod StoredForm
 pub mod Keeping
+pub mod Throughout
+pub mod Entries
 pub mod RowCalls
 pub mod Payloads
 pub mod Nonzero

@@ -1,7 +1,7 @@
 -- No refusal has number 0 (specs/Claims.antt). Assumes nothing.
 use Prim.{Unit, tt}
 use Prim.Native.Nat.{ℕ, _+_, _-_, _^_}
-use mathlib.Core.Bool.{Bool, true, false, cond}
+use mathlib.Core.Bool.{Bool, true, false, cond, _&&_}
 use mathlib.Core.Option.{Option, none, some}
 use mathlib.Core.List.{List}
 use native.Mathlib.Omega.{arith}
@@ -25,7 +25,12 @@ use Rattle.capsule.specs.declared.reader.Reader.{Reader}
 use Rattle.capsule.specs.declared.reader.Verdict.{Verdict}
 use Rattle.capsule.specs.declared.reader.Verdict.the-variants as verdict
 use Rattle.capsule.specs.declared.reader.CloseAnswer.the-variants as closedAs
-use Rattle.capsule.specs.Calls.{Lent, outputVerdict, lentVerdict}
+use Rattle.addresses.specs.Addresses.{route, longestAddressValue, allOf, wellFormed}
+use Rattle.addresses.specs.Encoding.{entryBytes, rangeBytes, valueBytes}
+use Rattle.address_writer.specs.Rows.{entrySize, rangeSize, isWhole, entriesIn, rangesIn}
+use Rattle.address_writer.specs.Writer.{capsuleOf, writeValue, idFits, writeAddresses, writeRoutes}
+use Rattle.capsule.specs.Kinds.{opted}
+use Rattle.capsule.specs.Calls.{Lent, outputVerdict, addressesVerdict, lentVerdict}
 use Rattle.capsule.specs.Reader.{opening, isOpening, openOf, isMakeable, verdictOf, takeOf, feedBy, feedOf, fedBy, endAt, closing, closeOf}
 use Rattle.streams.specs.declared.record.Side.{Side}
 use Rattle.streams.specs.declared.record.StreamRecord.{StreamRecord}
@@ -51,9 +56,9 @@ pick P false x y a b = b
 
 -- ---- the reader
 
-open-so : (role : Role) (limit : ℕ) (draft : Bool) → OpenedSo (openOf role limit draft)
+open-so : (role : Role) (limit : ℕ) (draft addresses : Bool) → OpenedSo (openOf role limit draft addresses)
 unfolding openOf
-open-so role limit draft = pick OpenedSo (isOpening (opening role limit draft)) _ _ tt (λ z. omega arith)
+open-so role limit draft addresses = pick OpenedSo (isOpening (opening role limit draft addresses)) _ _ tt (λ z. omega arith)
 
 abbrev VerdictSo : Verdict → Type 0
 VerdictSo verdict.Accepted = Unit {0}
@@ -64,14 +69,19 @@ unfolding outputVerdict
 output-so Endpoint piece room = tt
 output-so Intermediary piece room = pick VerdictSo (leb (piece + 8) room) _ _ tt (λ z. omega arith)
 
-verdict-so : (r : Reader) (piece gathering output : ℕ) → VerdictSo (verdictOf r piece gathering output)
+addresses-so : (o : Bool) (n : ℕ) (v : Verdict) → VerdictSo v → VerdictSo (addressesVerdict o n v)
+unfolding addressesVerdict
+addresses-so true n v s = pick VerdictSo (leb longestAddressValue n) _ _ s (λ z. omega arith)
+addresses-so false n v s = s
+
+verdict-so : (r : Reader) (piece gathering addresses output : ℕ) → VerdictSo (verdictOf r piece gathering addresses output)
 unfolding verdictOf lentVerdict
-verdict-so r piece gathering output =
-    pick VerdictSo (isMakeable r) _ _ (pick VerdictSo (r .finished) _ _ (λ z. omega arith) (pick VerdictSo (leb (r .opening .limit) gathering) _ _ (output-so (r .opening .role) piece output) (λ z. omega arith))) (λ z. omega arith)
+verdict-so r piece gathering addresses output =
+    pick VerdictSo (isMakeable r) _ _ (pick VerdictSo (r .finished) _ _ (λ z. omega arith) (pick VerdictSo (leb (r .opening .limit) gathering) _ _ (addresses-so (opted (r .opening)) addresses _ (output-so (r .opening .role) piece output)) (λ z. omega arith))) (λ z. omega arith)
 
 feed-so : (r : Reader) (p : List ℕ) (b : Lent) → FedSo (feedOf r p b .answer)
 unfolding feedOf
-feed-so r p b = go (verdictOf r (length p) (length (b .gathering)) (length (b .output))) (verdict-so r (length p) (length (b .gathering)) (length (b .output)))
+feed-so r p b = go (verdictOf r (length p) (length (b .gathering)) (length (b .addresses)) (length (b .output))) (verdict-so r (length p) (length (b .gathering)) (length (b .addresses)) (length (b .output)))
   where
     go : (v : Verdict) → VerdictSo v → FedSo (feedBy r p b v .answer)
     go (verdict.Refused why) n = unfold feedBy in n
@@ -192,6 +202,15 @@ frame-so (sending.Refused why) n path payload out place = n
 frame-so (sending.To q) n path payload out place =
     pick WritingSo (leb (length payload) 65535) _ _ (pick WritingSo (leb (length (frameBytes (q .0) payload)) path) _ _ (write-at-so (frameBytes (q .0) payload) out place) (λ z. omega arith)) (λ z. omega arith)
 
+value-so : (whole : Bool) (t : ℕ) (v out : List ℕ) (place : ℕ) → WritingSo (writeValue whole t v out place)
+unfolding writeValue refuses
+value-so whole t v out place = pick WritingSo (whole && wellFormed t v) _ _ (write-at-so (capsuleOf t v) out place) (λ z. omega arith)
+
+addresses-written-so : (t : ℕ) (row out : List ℕ) (place : ℕ) → WritingSo (writeAddresses t row out place)
+unfolding writeAddresses refuses
+addresses-written-so t row out place =
+    pick WritingSo (allOf idFits (entriesIn row)) _ _ (value-so (isWhole entrySize row) t (valueBytes entryBytes (entriesIn row)) out place) (λ z. omega arith)
+
 -- ---- translation
 
 answer-so : (e : Option Error) (v : Option Version) → TranslatedSo (answer e v)
@@ -205,7 +224,7 @@ unfolding translated
 translate-so error version = answer-so (nth errors error) (nth versions version)
 
 pub numbered-refusals : NumberedRefusals
-unfolding writeCapsuleRows writeFrameRows
+unfolding writeCapsuleRows writeFrameRows writeRoutes
 numbered-refusals = record {
   opens = open-so;
   feeds = feed-so;
@@ -217,5 +236,7 @@ numbered-refusals = record {
   judges = judge-so;
   writes-capsule = λ qs ms id payload out place. capsule-so (sendingRows qs ms id true) (send-so qs ms id true) payload out place;
   writes-frame = λ qs ms id ours peers path payload out place. frame-so (sendingRows qs ms id (agreed ours peers)) (send-so qs ms id (agreed ours peers)) path payload out place;
+  writes-addresses = addresses-written-so;
+  writes-routes = λ row out place. value-so (isWhole rangeSize row) route (valueBytes rangeBytes (rangesIn row)) out place;
   translates = translate-so;
 }

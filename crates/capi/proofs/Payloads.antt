@@ -1,7 +1,7 @@
 -- Payloads and writers (specs/Claims.antt). Assumes nothing.
 use Prim.Native.Nat.{ℕ, _+_, _-_, _≤_}
 use mathlib.Core.Path.{_≡_, refl}
-use mathlib.Core.Bool.{Bool, true, false, cond}
+use mathlib.Core.Bool.{Bool, true, false, cond, _&&_}
 use mathlib.Core.List.{List}
 use native.Mathlib.Omega.{arith}
 use lib.ListN.{length, take, drop, length-drop}
@@ -20,6 +20,10 @@ use Rattle.datagram.specs.Judging.{isDelivered, ifDelivered, behind, judgedRows
 use Rattle.datagram.specs.declared.write.Sending.{Sending}
 use Rattle.datagram.specs.declared.write.Sending.the-variants as sending
 use Rattle.datagram.specs.Sending.{capsuleBytes, frameBytes, agreed, putCapsule, putFrame, capsuleWritten, frameWritten, sendingRows, writeCapsuleRows, writeFrameRows}
+use Rattle.addresses.specs.Addresses.{route, allOf, wellFormed}
+use Rattle.addresses.specs.Encoding.{entryBytes, rangeBytes, valueBytes}
+use Rattle.address_writer.specs.Rows.{entrySize, rangeSize, isWhole, entriesIn, rangesIn}
+use Rattle.address_writer.specs.Writer.{capsuleOf, writeValue, idFits, writeAddresses, writeRoutes}
 use Rattle.capi.specs.Varint.{writtenAnswer, wroteBy}
 use Rattle.capi.specs.Frames.{deliveredAnswer, judgedAnswer}
 use Rattle.capi.specs.Claims.{PayloadPart, RefusalLeaves, RefusedWriteLeaves}
@@ -87,10 +91,20 @@ module _ (out : List ℕ) (place : ℕ) where
   leaves-frame (sending.To q) path payload =
       leaves-if (leb (length payload) 65535) _ _ (leaves-if (leb (length (frameBytes (q .0) payload)) path) _ _ (leaves-at (frameBytes (q .0) payload)) (leaves-refused _)) (leaves-refused _)
 
+  leaves-value : (whole : Bool) (t : ℕ) (v : List ℕ) → RefusalLeaves (writeValue whole t v out place) out
+  unfolding writeValue
+  leaves-value whole t v = leaves-if (whole && wellFormed t v) _ _ (leaves-at (capsuleOf t v)) (leaves-refused _)
+
+  leaves-addresses : (t : ℕ) (row : List ℕ) → RefusalLeaves (writeAddresses t row out place) out
+  unfolding writeAddresses
+  leaves-addresses t row = leaves-if (allOf idFits (entriesIn row)) _ _ (leaves-value (isWhole entrySize row) t (valueBytes entryBytes (entriesIn row))) (leaves-refused _)
+
 pub refused-write-leaves : RefusedWriteLeaves
-unfolding writeCapsuleRows writeFrameRows
+unfolding writeCapsuleRows writeFrameRows writeRoutes
 refused-write-leaves out place = (
   λ n. leaves-varint out place n,
   λ qs ms id payload. leaves-capsule out place (sendingRows qs ms id true) payload,
   λ qs ms id ours peers path payload. leaves-frame out place (sendingRows qs ms id (agreed ours peers)) path payload,
+  λ t row. leaves-addresses out place t row,
+  λ row. leaves-value out place (isWhole rangeSize row) route (valueBytes rangeBytes (rangesIn row)),
 )

@@ -32,14 +32,14 @@ pub stands-other : (ws : List ℕ) → Stands ws Other
 unfolding Stands
 stands-other ws = tt
 
-module _ (ws : List ℕ) (a : getD ws 0 0 ≤ 1) (b : getD ws 2 0 ≤ 1) (c : getD ws 7 0 ≡ 0) where
+module _ (ws : List ℕ) (a : getD ws 0 0 ≤ 1) (b : getD ws 2 0 ≤ 3) (c : getD ws 7 0 ≡ 0) where
   pub stands-between : getD ws 3 0 ≡ 0 → getD ws 4 0 ≡ 0 → getD ws 5 0 ≡ 0 → getD ws 6 0 ≡ 0 → Stands ws Between
   unfolding Stands readerIn withPhase phaseIn openingIn flagOf
-  stands-between d e f g = rw (le-leb (getD ws 0 0) 1 a, le-leb (getD ws 2 0) 1 b, c, d, e, f, g)
+  stands-between d e f g = rw (le-leb (getD ws 0 0) 1 a, le-leb (getD ws 2 0) 3 b, c, d, e, f, g)
 
   pub stands-within : getD ws 3 0 ≡ 2 → Stands ws Within
   unfolding Stands readerIn withPhase phaseIn openingIn flagOf
-  stands-within d = rw (le-leb (getD ws 0 0) 1 a, le-leb (getD ws 2 0) 1 b, c, d)
+  stands-within d = rw (le-leb (getD ws 0 0) 1 a, le-leb (getD ws 2 0) 3 b, c, d)
 
 pub between-reads : (ws : List ℕ) → Stands ws Between → readerIn ws ≡ Is (fresh (openingIn ws))
 unfolding Stands

@@ -1,11 +1,11 @@
 -- The stored form of a reader (specs/Claims.antt). Assumes nothing.
-use Prim.Native.Nat.{ℕ}
+use Prim.Native.Nat.{ℕ, _+_, _*_, _%_}
 use mathlib.Core.Path.{_≡_, refl, sym}
 use mathlib.Core.Bool.{Bool, true, false, cond, not, _&&_}
 use mathlib.Core.List.{List, [], _∷_}
 use native.Mathlib.Omega.{arith}
-use lib.Dec.{leb, eqb}
-use borrow.Author.Tests.{le-leb, leb-true, eqb-true, eqb-false}
+use lib.Dec.{leb, ltb, eqb}
+use borrow.Author.Tests.{le-leb, leb-true, ltb-true, ltb-false, eqb-true, eqb-false}
 use Rattle.wire.specs.Partial.{partial}
 use Rattle.wire.proofs.Parts.{parted}
 use Rattle.capsule.specs.declared.opening.Role.{Role}
@@ -18,7 +18,7 @@ use Rattle.capi.specs.declared.words.LoadedPhase.{LoadedPhase}
 use Rattle.capi.specs.declared.words.LoadedPhase.the-variants as phase
 use Rattle.capi.specs.declared.words.Loaded.the-variants as loaded
 use Rattle.capi.specs.Numbers.{flagOf, bitOf, roleOf}
-use Rattle.capi.specs.Words.{roleNumber, phaseWords, wordsOf, phaseIn, withPhase, readerIn}
+use Rattle.capi.specs.Words.{roleNumber, settingsNumber, draftIn, addressesIn, phaseWords, wordsOf, phaseIn, withPhase, readerIn}
 use Rattle.capi.specs.Claims.{HaveIsByte, StoredRead, ReadAsStored}
 
 -- ---- numbers there and back
@@ -59,6 +59,30 @@ bit-there n small = go (eqb n 0) refl
     go true e = sym (eqb-true n 0 e)
     go false e = omega (arith, leb-true n 1 small, eqb-false n 0 e)
 
+settings-small : (draft addresses : Bool) → leb (settingsNumber draft addresses) 3 ≡ true
+unfolding settingsNumber bitOf
+settings-small true true = refl
+settings-small true false = refl
+settings-small false true = refl
+settings-small false false = refl
+
+settings-back : (draft addresses : Bool) → (draftIn (settingsNumber draft addresses) ≡ draft) × (addressesIn (settingsNumber draft addresses) ≡ addresses)
+unfolding settingsNumber bitOf draftIn addressesIn
+settings-back true true = (refl, refl)
+settings-back true false = (refl, refl)
+settings-back false true = (refl, refl)
+settings-back false false = (refl, refl)
+
+settings-there : (n : ℕ) → leb n 3 ≡ true → settingsNumber (draftIn n) (addressesIn n) ≡ n
+unfolding settingsNumber bitOf draftIn addressesIn
+settings-there n small = go (eqb (n % 2) 1) (ltb 1 n) refl refl
+  where
+    go : (d a : Bool) → eqb (n % 2) 1 ≡ d → ltb 1 n ≡ a → cond d 1 0 + 2 * cond a 1 0 ≡ n
+    go true true e f = omega (arith, leb-true n 3 small, eqb-true (n % 2) 1 e, ltb-true 1 n f)
+    go true false e f = omega (arith, leb-true n 3 small, eqb-true (n % 2) 1 e, ltb-false 1 n f)
+    go false true e f = omega (arith, leb-true n 3 small, eqb-false (n % 2) 1 e, ltb-true 1 n f)
+    go false false e f = omega (arith, leb-true n 3 small, eqb-false (n % 2) 1 e, ltb-false 1 n f)
+
 -- ---- what was stored is read back
 
 record Stored (x : Phase) : Type 0 where
@@ -79,7 +103,8 @@ pub stored-read : StoredRead
 unfolding wordsOf readerIn withPhase
 stored-read r byte =
     let q = phase-back (r .phase) byte in
-    rw (q .words, role-small (r .opening .role), bit-small (r .opening .draft), bit-small (r .finished), q .back, role-back (r .opening .role), bit-back (r .opening .draft), bit-back (r .finished))
+    let s = settings-back (r .opening .draft) (r .opening .addresses) in
+    rw (q .words, role-small (r .opening .role), settings-small (r .opening .draft) (r .opening .addresses), bit-small (r .finished), q .back, role-back (r .opening .role), s .0, s .1, bit-back (r .finished))
 
 -- ---- nothing else is read as that reader
 
@@ -110,14 +135,14 @@ module _ (a0 a1 a2 a3 a4 a5 a6 a7 : ℕ) (r : Reader) where
   abbrev ws : List ℕ
   ws = a0 ∷ a1 ∷ a2 ∷ a3 ∷ a4 ∷ a5 ∷ a6 ∷ a7 ∷ []
 
-  with-stored : leb a0 1 ≡ true → leb a2 1 ≡ true → leb a7 1 ≡ true → (x : LoadedPhase) → phaseIn a3 a4 a5 a6 ≡ x → withPhase a0 a1 a2 a7 x ≡ loaded.Is r → wordsOf r ≡ ws
+  with-stored : leb a0 1 ≡ true → leb a2 3 ≡ true → leb a7 1 ≡ true → (x : LoadedPhase) → phaseIn a3 a4 a5 a6 ≡ x → withPhase a0 a1 a2 a7 x ≡ loaded.Is r → wordsOf r ≡ ws
   unfolding withPhase wordsOf
   with-stored s0 s2 s7 phase.Nothing e h = zero-one (cc)
   with-stored s0 s2 s7 (phase.Is p) e h =
-      let d : record { opening = record { role = roleOf a0; limit = a1; draft = flagOf a2 }; phase = p; finished = flagOf a7 } ≡ r = cc in
-      rw (← d, role-there a0 s0, bit-there a2 s2, bit-there a7 s7, phase-stored a3 a4 a5 a6 p e)
+      let d : record { opening = record { role = roleOf a0; limit = a1; draft = draftIn a2; addresses = addressesIn a2 }; phase = p; finished = flagOf a7 } ≡ r = cc in
+      rw (← d, role-there a0 s0, settings-there a2 s2, bit-there a7 s7, phase-stored a3 a4 a5 a6 p e)
 
-  read-tests : (t0 t2 t7 : Bool) → leb a0 1 ≡ t0 → leb a2 1 ≡ t2 → leb a7 1 ≡ t7 → cond (t0 && (t2 && t7)) (withPhase a0 a1 a2 a7 (phaseIn a3 a4 a5 a6)) loaded.Nothing ≡ loaded.Is r → wordsOf r ≡ ws
+  read-tests : (t0 t2 t7 : Bool) → leb a0 1 ≡ t0 → leb a2 3 ≡ t2 → leb a7 1 ≡ t7 → cond (t0 && (t2 && t7)) (withPhase a0 a1 a2 a7 (phaseIn a3 a4 a5 a6)) loaded.Nothing ≡ loaded.Is r → wordsOf r ≡ ws
   read-tests true true true s0 s2 s7 h = with-stored s0 s2 s7 (phaseIn a3 a4 a5 a6) refl h
   read-tests true true false s0 s2 s7 h = zero-one (cc)
   read-tests true false t7 s0 s2 s7 h = zero-one (cc)
@@ -125,7 +150,7 @@ module _ (a0 a1 a2 a3 a4 a5 a6 a7 : ℕ) (r : Reader) where
 
   eight-stored : readerIn ws ≡ loaded.Is r → wordsOf r ≡ ws
   unfolding readerIn
-  eight-stored h = read-tests (leb a0 1) (leb a2 1) (leb a7 1) refl refl refl h
+  eight-stored h = read-tests (leb a0 1) (leb a2 3) (leb a7 1) refl refl refl h
 
 pub read-as-stored : ReadAsStored
 read-as-stored (a ∷ b ∷ c ∷ d ∷ e ∷ f ∷ g ∷ h ∷ []) r l x = eight-stored a b c d e f g h r x

@@ -1,10 +1,12 @@
 -- What holds of the calls. Each claim is a type here, and is proved in proofs/ under its name in lower case with dashes.
 use Prim.{Unit}
-use Prim.Native.Nat.{ℕ, _+_, _≤_}
+use Prim.Native.Nat.{ℕ, _+_, _≤_, _<_}
 use mathlib.Core.Path.{_≡_}
-use mathlib.Core.Bool.{Bool, true, false}
-use mathlib.Core.List.{List}
+use mathlib.Core.Bool.{Bool, true, false, cond}
+use mathlib.Core.Option.{none}
+use mathlib.Core.List.{List, [], _∷_}
 use lib.ListN.{length, take, drop}
+use lib.Dec.{eqb}
 use Rattle.refusals.specs.declared.Refusal.{Refusal}
 use Rattle.wire.specs.declared.units.StreamId.{StreamId}
 use Rattle.wire.specs.declared.varint.Written.{Written}
@@ -21,8 +23,11 @@ use Rattle.capsule.specs.declared.reader.FeedAnswer.{FeedAnswer}
 use Rattle.capsule.specs.declared.reader.FeedAnswer.the-variants as fedAs
 use Rattle.capsule.specs.declared.reader.CloseAnswer.{CloseAnswer}
 use Rattle.capsule.specs.declared.reader.CloseAnswer.the-variants as closedAs
-use Rattle.capsule.specs.Calls.{Lent}
-use Rattle.capsule.specs.Reader.{isMakeable, openOf, feedOf, closeOf}
+use Rattle.capsule.specs.Calls.{Lent, Call, feed, close, run}
+use Rattle.capsule.specs.Book.{newBook, bookCall}
+use Rattle.capsule.specs.State.{ofBook}
+use Rattle.capsule.specs.Reader.{opening, fresh, isMakeable, openOf, feedOf, closeOf, readerCall}
+use Rattle.capsule_laws.specs.Claims.{AllBytes, HandedOn}
 use Rattle.streams.specs.declared.record.Side.{Side}
 use Rattle.streams.specs.declared.table.Opening.{Opening}
 use Rattle.streams.specs.declared.table.Opening.the-variants as openingAs
@@ -34,6 +39,8 @@ use Rattle.datagram.specs.declared.judge.Judged.{Judged}
 use Rattle.datagram.specs.declared.judge.Judged.the-variants as judged
 use Rattle.datagram.specs.Judging.{judgedRows, payloadRows}
 use Rattle.datagram.specs.Sending.{writeCapsuleRows, writeFrameRows}
+use Rattle.addresses.specs.Handing.{nextAddress, nextRange}
+use Rattle.address_writer.specs.Writer.{writeAddresses, writeRoutes}
 use Rattle.listing.specs.declared.Listed.{Listed}
 use Rattle.listing.specs.declared.Listed.the-variants as listed
 use Rattle.listing.specs.Listing.{listingOf}
@@ -41,12 +48,15 @@ use Rattle.http.specs.declared.translation.Translation.{Translation}
 use Rattle.http.specs.declared.translation.Translation.the-variants as translation
 use Rattle.http.specs.Translation.{translated}
 use Rattle.capi.specs.declared.words.Loaded.the-variants.{Is}
+use Rattle.capi.specs.declared.reader.FedAnswer.{FedAnswer}
+use Rattle.capi.specs.declared.reader.ClosedAnswer.{ClosedAnswer}
 use Rattle.capi.specs.Numbers.{roleOf, flagOf}
 use Rattle.capi.specs.Varint.{wroteBy}
 use Rattle.capi.specs.Words.{wordsOf, readerIn}
 use Rattle.capi.specs.Reader.{openWords, fedAnswer, feedWords, closedAnswer, closeWords}
 use Rattle.capi.specs.Table.{rows, rowsOpened, openRows, rowsClosed, closeRows}
 use Rattle.capi.specs.Frames.{judgedAnswer}
+use Rattle.capi.specs.AddressCapsules.{cursor, addressFound, routeFound}
 
 -- ---- the stored form of a reader (proofs/StoredForm.antt)
 
@@ -66,20 +76,20 @@ ReadAsStored = (ws : List ℕ) (r : Reader) → length ws ≡ 8 → readerIn ws 
 
 -- ---- calls on a reader in words (proofs/Keeping.antt)
 
--- a refusal leaves the words and both buffers
+-- a refusal leaves the words and all buffers
 abbrev pub RefusedReaderLeaves : Type 0
 RefusedReaderLeaves =
     (ws : List ℕ)
-    → ((role limit draft : ℕ) → (openWords ws role limit draft .answer ≡ 0 → ⊥) → openWords ws role limit draft .words ≡ ws)
+    → ((role limit draft addresses : ℕ) → (openWords ws role limit draft addresses .answer ≡ 0 → ⊥) → openWords ws role limit draft addresses .words ≡ ws)
     × ((p : List ℕ) (b : Lent) → (feedWords ws p b .answer .refusal ≡ 0 → ⊥) → (feedWords ws p b .words ≡ ws) × (feedWords ws p b .buffers ≡ b))
     × ((closeWords ws .answer .refusal ≡ 0 → ⊥) → closeWords ws .words ≡ ws)
 
 -- the next call finds the reader that was opened
 abbrev pub OpenKept : Type 0
 OpenKept =
-    (ws : List ℕ) (role limit draft : ℕ)
-    → openWords ws role limit draft .answer ≡ 0
-    → (r : Reader) × (openOf (roleOf role) limit (flagOf draft) ≡ openedAs.Ready r) × (openWords ws role limit draft .words ≡ wordsOf r) × (isMakeable r ≡ true)
+    (ws : List ℕ) (role limit draft addresses : ℕ)
+    → openWords ws role limit draft addresses .answer ≡ 0
+    → (r : Reader) × (openOf (roleOf role) limit (flagOf draft) (flagOf addresses) ≡ openedAs.Ready r) × (openWords ws role limit draft addresses .words ≡ wordsOf r) × (isMakeable r ≡ true)
 
 -- on the words of a reader that can be made, a call is that of the reader, and the words afterwards are those of its state, which can be made again
 pub record FeedKept (r : Reader) (p : List ℕ) (b : Lent) : Type 0 where
@@ -95,6 +105,58 @@ pub record CloseKept (r : Reader) : Type 0 where
 
 abbrev pub ReaderKept : Type 0
 ReaderKept = (r : Reader) → isMakeable r ≡ true → ((p : List ℕ) (b : Lent) → Bytes p → FeedKept r p b) × CloseKept r
+
+-- any list of calls (proofs/Throughout.antt): the answers in numbers, and the buffers that each call leaves
+pub data Numbers : Type 0 where
+  fedIn : FedAnswer → Lent → Numbers
+  closedIn : ClosedAnswer → Numbers
+
+unfoldable pub wordsCall : List ℕ → Call → List ℕ × Numbers
+wordsCall ws (feed p b) = (feedWords ws p b .words, fedIn (feedWords ws p b .answer) (feedWords ws p b .buffers))
+wordsCall ws close = (closeWords ws .words, closedIn (closeWords ws .answer))
+
+unfoldable pub runWords : List ℕ → List Call → List ℕ × List Numbers
+runWords ws [] = (ws, [])
+runWords ws (c ∷ cs) = (runWords (wordsCall ws c .0) cs .0, wordsCall ws c .1 ∷ runWords (wordsCall ws c .0) cs .1)
+
+-- those of a reader's answers
+unfoldable pub numbersOf : Reader → Call → Numbers
+numbersOf r (feed p b) = fedIn (fedAnswer (feedOf r p b .answer)) (feedOf r p b .buffers)
+numbersOf r close = closedIn (closedAnswer (closeOf r .answer))
+
+unfoldable pub runNumbers : Reader → List Call → List Numbers
+runNumbers r [] = []
+runNumbers r (c ∷ cs) = numbersOf r c ∷ runNumbers (readerCall r c .0) cs
+
+-- they are the reader's, refused ones included, and the words afterwards are its state's; so demand 3 (`Demand3` of capsule_laws) is theirs, too
+abbrev pub Throughout : Type 0
+Throughout = (r : Reader) → isMakeable r ≡ true → (cs : List Call) → AllBytes cs → runWords (wordsOf r) cs ≡ (wordsOf (run readerCall r cs .0), runNumbers r cs)
+
+-- from an opening, with the buffers handed on: the words afterwards are made from the book's stream and mark
+abbrev pub Demand3InWords : Type 0
+Demand3InWords =
+    (ws : List ℕ) (role limit draft addresses : ℕ) (cs : List Call)
+    → let op = opening (roleOf role) limit (flagOf draft) (flagOf addresses) in
+    openWords ws role limit draft addresses .answer ≡ 0
+    → AllBytes cs
+    → HandedOn none (newBook op) (fresh op) cs
+    → runWords (openWords ws role limit draft addresses .words) cs ≡ (wordsOf (ofBook (run bookCall (newBook op) cs .0)), runNumbers (fresh op) cs)
+
+-- a malformed capsule (report 6) is error 7, and no other answer of a feeding is an error
+abbrev pub MalformedError : Type 0
+MalformedError = (a : FeedAnswer) → fedAnswer a .error ≡ cond (eqb (fedAnswer a .report) 6) 7 0
+
+-- ---- entries handed out (proofs/Entries.antt)
+
+-- behind an entry lies a later place of the value, its end at the latest; where none was found the place stays
+abbrev pub GoesOn : List ℕ → ℕ → ℕ → ℕ → Type 0
+GoesOn v at found next = (found ≡ 1 → (at < next) × (next ≤ length v)) × ((found ≡ 1 → ⊥) → next ≡ at)
+
+abbrev pub EntriesGoOn : Type 0
+EntriesGoOn =
+    (v : List ℕ) (at : ℕ)
+    → (let a = addressFound (nextAddress v (cursor at)) in GoesOn v at (a .found) (a .next))
+    × (let r = routeFound (nextRange v (cursor at)) in GoesOn v at (r .found) (r .next))
 
 -- ---- calls on a table in rows (proofs/RowCalls.antt)
 
@@ -139,6 +201,8 @@ RefusedWriteLeaves =
     → ((n : ℕ) → RefusalLeaves (writeVarint n out place) out)
     × ((qs ms : List ℕ) (id : StreamId) (payload : List ℕ) → RefusalLeaves (writeCapsuleRows qs ms id payload out place) out)
     × ((qs ms : List ℕ) (id : StreamId) (ours peers path : ℕ) (payload : List ℕ) → RefusalLeaves (writeFrameRows qs ms id ours peers path payload out place) out)
+    × ((t : ℕ) (row : List ℕ) → RefusalLeaves (writeAddresses t row out place) out)
+    × ((row : List ℕ) → RefusalLeaves (writeRoutes row out place) out)
 
 -- ---- 0 says "not refused": no refusal has that number (proofs/Nonzero.antt)
 
@@ -190,7 +254,7 @@ TranslatedSo (translation.Refused why) = NotZero why
 TranslatedSo (translation.Becomes action) = Unit {0}
 
 pub record NumberedRefusals : Type 0 where
-  pub opens : (role : Role) (limit : ℕ) (draft : Bool) → OpenedSo (openOf role limit draft)
+  pub opens : (role : Role) (limit : ℕ) (draft addresses : Bool) → OpenedSo (openOf role limit draft addresses)
   pub feeds : (r : Reader) (p : List ℕ) (b : Lent) → FedSo (feedOf r p b .answer)
   pub closes : (r : Reader) → ClosedSo (closeOf r .answer)
   pub lists : (s : List ℕ) → ListedSo (listingOf s)
@@ -200,4 +264,6 @@ pub record NumberedRefusals : Type 0 where
   pub judges : (qs ms : List ℕ) (streams limit : ℕ) (frame : List ℕ) → JudgedSo (judgedRows qs ms streams limit frame)
   pub writes-capsule : (qs ms : List ℕ) (id : StreamId) (payload out : List ℕ) (place : ℕ) → WrittenSo (writeCapsuleRows qs ms id payload out place .answer)
   pub writes-frame : (qs ms : List ℕ) (id : StreamId) (ours peers path : ℕ) (payload out : List ℕ) (place : ℕ) → WrittenSo (writeFrameRows qs ms id ours peers path payload out place .answer)
+  pub writes-addresses : (t : ℕ) (row out : List ℕ) (place : ℕ) → WrittenSo (writeAddresses t row out place .answer)
+  pub writes-routes : (row out : List ℕ) (place : ℕ) → WrittenSo (writeRoutes row out place .answer)
   pub translates : (error version : ℕ) → TranslatedSo (translated error version)

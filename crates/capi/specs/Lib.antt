@@ -6,6 +6,7 @@ pub mod Standing
 pub mod OneShot
 pub mod Table
 pub mod Frames
+pub mod AddressCapsules
 pub mod Messages
 pub mod Claims
 pub mod Cases

@@ -13,7 +13,7 @@ use Rattle.http.specs.declared.errors.ErrorOf.the-variants.{NoError, Is}
 
 -- ---- readings
 
--- 0 is no, any other number is yes: draft, semantics, response, and the three fields of a message
+-- 0 is no, any other number is yes: draft, taking address capsules, semantics, response, and the three fields of a message
 unfoldable pub flagOf : ℕ → Bool
 flagOf n = not (eqb n 0)
 

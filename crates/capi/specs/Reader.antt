@@ -4,7 +4,7 @@ use mathlib.Core.List.{List}
 use Rattle.refusals.specs.declared.Refusal.{Refusal}
 use Rattle.refusals.specs.Numbers.{unmakeableState}
 use Rattle.capsule.specs.declared.opening.Report.{Report}
-use Rattle.capsule.specs.declared.opening.Report.the-variants.{Delivered, Dropped, Skipped, Passed}
+use Rattle.capsule.specs.declared.opening.Report.the-variants.{Delivered, Dropped, Skipped, Passed, AddressDelivered, Malformed}
 use Rattle.capsule.specs.declared.reader.Reader.{Reader}
 use Rattle.capsule.specs.declared.reader.Opened.{Opened}
 use Rattle.capsule.specs.declared.reader.Opened.the-variants as openedAs
@@ -16,8 +16,8 @@ use Rattle.capsule.specs.declared.reader.CloseAnswer.{CloseAnswer}
 use Rattle.capsule.specs.declared.reader.CloseAnswer.the-variants as closedAs
 use Rattle.capsule.specs.declared.reader.Closed.{Closed}
 use Rattle.capsule.specs.Calls.{Lent}
-use Rattle.capsule.specs.Reader.{openOf, Feeding, feedOf, closeOf}
-use Rattle.http.specs.Ties.{closeError}
+use Rattle.capsule.specs.Reader.{openOf, lengthOf, Feeding, feedOf, closeOf}
+use Rattle.http.specs.Ties.{closeError, reportError}
 use Rattle.capi.specs.declared.words.Loaded.{Loaded}
 use Rattle.capi.specs.declared.words.Loaded.the-variants as loaded
 use Rattle.capi.specs.declared.reader.FedAnswer.{FedAnswer}
@@ -39,31 +39,41 @@ unfoldable pub openedAt : List ℕ → Opened → OpenDone
 openedAt ws (openedAs.Refused why) = opened (why .0) ws
 openedAt ws (openedAs.Ready r) = opened 0 (wordsOf r)
 
-unfoldable pub openWords : List ℕ → ℕ → ℕ → ℕ → OpenDone
-openWords ws role limit draft = openedAt ws (openOf (roleOf role) limit (flagOf draft))
+unfoldable pub openWords : List ℕ → ℕ → ℕ → ℕ → ℕ → OpenDone
+openWords ws role limit draft addresses = openedAt ws (openOf (roleOf role) limit (flagOf draft) (flagOf addresses))
 
 -- ---- feeding
 
-abbrev pub fedNumbers : ℕ → ℕ → ℕ → ℕ → ℕ → FedAnswer
-fedNumbers consumed written report t n =
-    record { refusal = 0; consumed = consumed; written = written; report = report; ctype = t; length = n }
+unfoldable pub reportNumber : Report → ℕ
+reportNumber (Delivered n) = 1
+reportNumber (Dropped n) = 2
+reportNumber (Skipped t n) = 3
+reportNumber (Passed t n) = 4
+reportNumber (AddressDelivered t n) = 5
+reportNumber (Malformed t n) = 6
 
--- 1 delivered, 2 dropped, 3 skipped, 4 passed
+-- the type is said of what is no DATAGRAM
+unfoldable pub typeOf : Report → ℕ
+typeOf (Delivered n) = 0
+typeOf (Dropped n) = 0
+typeOf (Skipped t n) = t
+typeOf (Passed t n) = t
+typeOf (AddressDelivered t n) = t
+typeOf (Malformed t n) = t
+
 unfoldable pub fedReport : ℕ → ℕ → Report → FedAnswer
-fedReport consumed written (Delivered n) = fedNumbers consumed written 1 0 n
-fedReport consumed written (Dropped n) = fedNumbers consumed written 2 0 n
-fedReport consumed written (Skipped t n) = fedNumbers consumed written 3 t n
-fedReport consumed written (Passed t n) = fedNumbers consumed written 4 t n
+fedReport consumed written report =
+    record { refusal = 0; consumed = consumed; written = written; report = reportNumber report; ctype = typeOf report; length = lengthOf report; error = errorNumber (reportError report) }
 
 -- 0 where no capsule ended
 unfoldable pub fedTook : ℕ → ℕ → Ended → FedAnswer
-fedTook consumed written Nothing = fedNumbers consumed written 0 0 0
+fedTook consumed written Nothing = record { refusal = 0; consumed = consumed; written = written; report = 0; ctype = 0; length = 0; error = 0 }
 fedTook consumed written (Capsule report) = fedReport consumed written report
 
 abbrev pub fedRefused : Refusal → FedAnswer
-fedRefused why = record { refusal = why .0; consumed = 0; written = 0; report = 0; ctype = 0; length = 0 }
+fedRefused why = record { refusal = why .0; consumed = 0; written = 0; report = 0; ctype = 0; length = 0; error = 0 }
 
--- the answer, the words and both buffers afterwards
+-- the answer, the words and all buffers afterwards
 pub record FeedDone : Type 0 where
   pub answer : FedAnswer
   pub words : List ℕ

@@ -1,9 +1,9 @@
--- A reader in eight words: the role, the datagram limit, the draft setting, the phase's number and three words of it, whether it is finished.
-use Prim.Native.Nat.{ℕ}
-use mathlib.Core.Bool.{cond, _&&_}
+-- A reader in eight words: the role, the datagram limit, the two settings, the phase's number and three words of it, whether it is finished.
+use Prim.Native.Nat.{ℕ, _+_, _*_, _%_}
+use mathlib.Core.Bool.{Bool, cond, _&&_}
 use mathlib.Core.List.{List, [], _∷_, _++_}
 use lib.ListN.{getD}
-use lib.Dec.{leb, eqb}
+use lib.Dec.{leb, ltb, eqb}
 use Rattle.wire.specs.Partial.{partial}
 use Rattle.capsule.specs.declared.opening.Role.{Role}
 use Rattle.capsule.specs.declared.opening.Role.the-variants.{Endpoint, Intermediary}
@@ -24,6 +24,10 @@ unfoldable pub roleNumber : Role → ℕ
 roleNumber Endpoint = 0
 roleNumber Intermediary = 1
 
+-- the draft setting is worth 1, taking address capsules 2
+unfoldable pub settingsNumber : Bool → Bool → ℕ
+settingsNumber draft addresses = bitOf draft + 2 * bitOf addresses
+
 unfoldable pub phaseWords : Phase → List ℕ
 phaseWords (InType part) = 0 ∷ part .have ∷ part .raw ∷ 0 ∷ []
 phaseWords (InLength t part) = 1 ∷ t ∷ part .have ∷ part .raw ∷ []
@@ -31,7 +35,7 @@ phaseWords (InValue t n left) = 2 ∷ t ∷ n ∷ left ∷ []
 
 unfoldable pub wordsOf : Reader → List ℕ
 wordsOf r =
-    roleNumber (r .opening .role) ∷ r .opening .limit ∷ bitOf (r .opening .draft) ∷ (phaseWords (r .phase) ++ (bitOf (r .finished) ∷ []))
+    roleNumber (r .opening .role) ∷ r .opening .limit ∷ settingsNumber (r .opening .draft) (r .opening .addresses) ∷ (phaseWords (r .phase) ++ (bitOf (r .finished) ∷ []))
 
 -- ---- reading it back (see the claims `StoredRead` and `ReadAsStored`)
 
@@ -44,17 +48,23 @@ phaseIn kind a b c =
     (cond (leb b 255) (phase.Is (InLength a (partial b c))) phase.Nothing)
     (cond (eqb kind 2) (phase.Is (InValue a b c)) phase.Nothing))
 
+unfoldable pub draftIn : ℕ → Bool
+draftIn settings = eqb (settings % 2) 1
+
+unfoldable pub addressesIn : ℕ → Bool
+addressesIn settings = ltb 1 settings
+
 unfoldable pub openingIn : List ℕ → Opening
-openingIn ws = opening (roleOf (getD ws 0 0)) (getD ws 1 0) (flagOf (getD ws 2 0))
+openingIn ws = opening (roleOf (getD ws 0 0)) (getD ws 1 0) (draftIn (getD ws 2 0)) (addressesIn (getD ws 2 0))
 
 unfoldable pub withPhase : ℕ → ℕ → ℕ → ℕ → LoadedPhase → Loaded
-withPhase role limit draft finished phase.Nothing = loaded.Nothing
-withPhase role limit draft finished (phase.Is p) =
-    loaded.Is (record { opening = opening (roleOf role) limit (flagOf draft); phase = p; finished = flagOf finished })
+withPhase role limit settings finished phase.Nothing = loaded.Nothing
+withPhase role limit settings finished (phase.Is p) =
+    loaded.Is (record { opening = opening (roleOf role) limit (draftIn settings) (addressesIn settings); phase = p; finished = flagOf finished })
 
--- role, draft setting and finished are 0 or 1
+-- role and finished are 0 or 1, the settings 0 to 3
 unfoldable pub readerIn : List ℕ → Loaded
 readerIn ws =
-    cond (leb (getD ws 0 0) 1 && (leb (getD ws 2 0) 1 && leb (getD ws 7 0) 1))
+    cond (leb (getD ws 0 0) 1 && (leb (getD ws 2 0) 3 && leb (getD ws 7 0) 1))
     (withPhase (getD ws 0 0) (getD ws 1 0) (getD ws 2 0) (getD ws 7 0) (phaseIn (getD ws 3 0) (getD ws 4 0) (getD ws 5 0) (getD ws 6 0)))
     loaded.Nothing

@@ -1,4 +1,5 @@
 // What a host calls from C: the functions that include/maruzhenu.h declares.
+mod address_capsules;
 mod frames;
 mod messages;
 mod numbers;

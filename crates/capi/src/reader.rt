@@ -28,9 +28,11 @@ use capsule::reader::Reader;
 use capsule::short::Inside;
 use capsule::short::Whole;
 use http::ties::close_error;
+use http::ties::report_error;
 use refusals::Refusal;
 
-// report: 0 no capsule ended, 1 delivered, 2 dropped, 3 skipped, 4 passed
+// report: 0 no capsule ended, 1 delivered, 2 dropped, 3 skipped, 4 passed, 5 address capsule delivered, 6 malformed
+// error: the report's
 #[repr(C)]
 pub struct FedAnswer {
     pub refusal: u64,
@@ -39,6 +41,7 @@ pub struct FedAnswer {
     pub report: u64,
     pub ctype: u64,
     pub length: u64,
+    pub error: u64,
 }
 
 // end: 1 clean, 2 truncated
@@ -51,10 +54,16 @@ pub struct ClosedAnswer {
 
 // The refusal's number, or 0.
 #[no_mangle]
-pub extern "C" fn mrz_reader_open(words: &mut [u64; 8], role: u64, limit: u64, draft: u64) -> u64
-    ensures { λ r. ⌜ opened r (now (words .exit)) ≡ openWords (now (words .entry)) role limit draft ⌝ }
+pub extern "C" fn mrz_reader_open(
+    words: &mut [u64; 8],
+    role: u64,
+    limit: u64,
+    draft: u64,
+    addresses: u64,
+) -> u64
+    ensures { λ r. ⌜ opened r (now (words .exit)) ≡ openWords (now (words .entry)) role limit draft addresses ⌝ }
 {
-    match Reader::open(role_of(role), limit, flag_of(draft)) {
+    match Reader::open(role_of(role), limit, flag_of(draft), flag_of(addresses)) {
         Opened::Refused(why) => refusal_number(why),
         Opened::Ready(reader) => {
             store(words, reader);
@@ -73,6 +82,7 @@ fn feed_refused(why: Refusal) -> FedAnswer
         report: 0,
         ctype: 0,
         length: 0,
+        error: 0,
     }
 }
 
@@ -87,6 +97,7 @@ fn fed_report(consumed: usize, written: usize, report: Report) -> FedAnswer
             report: 1,
             ctype: 0,
             length: length,
+            error: 0,
         },
         Report::Dropped(length) => FedAnswer {
             refusal: 0,
@@ -95,6 +106,7 @@ fn fed_report(consumed: usize, written: usize, report: Report) -> FedAnswer
             report: 2,
             ctype: 0,
             length: length,
+            error: 0,
         },
         Report::Skipped(ctype, length) => FedAnswer {
             refusal: 0,
@@ -103,6 +115,7 @@ fn fed_report(consumed: usize, written: usize, report: Report) -> FedAnswer
             report: 3,
             ctype: ctype,
             length: length,
+            error: 0,
         },
         Report::Passed(ctype, length) => FedAnswer {
             refusal: 0,
@@ -111,6 +124,25 @@ fn fed_report(consumed: usize, written: usize, report: Report) -> FedAnswer
             report: 4,
             ctype: ctype,
             length: length,
+            error: 0,
+        },
+        Report::AddressDelivered(ctype, length) => FedAnswer {
+            refusal: 0,
+            consumed: consumed as u64,
+            written: written as u64,
+            report: 5,
+            ctype: ctype,
+            length: length,
+            error: 0,
+        },
+        Report::Malformed(ctype, length) => FedAnswer {
+            refusal: 0,
+            consumed: consumed as u64,
+            written: written as u64,
+            report: 6,
+            ctype: ctype,
+            length: length,
+            error: error_number(report_error(report)),
         },
     }
 }
@@ -126,6 +158,7 @@ fn fed_took(consumed: usize, written: usize, ended: Ended) -> FedAnswer
             report: 0,
             ctype: 0,
             length: 0,
+            error: 0,
         },
         Ended::Capsule(report) => fed_report(consumed, written, report),
     }
@@ -136,14 +169,15 @@ fn feed_loaded(
     words: &mut [u64; 8],
     piece: &[u8],
     gathering: &mut [u8],
+    addresses: &mut [u8],
     output: &mut [u8],
 ) -> FedAnswer
-    ensures { λ r. ⌜ fed r (now (words .exit)) (lent (now (gathering .exit)) (now (output .exit))) ≡ feedWords (now (words .entry)) (now (piece .entry)) (lent (now (gathering .entry)) (now (output .entry))) ⌝ }
+    ensures { λ r. ⌜ fed r (now (words .exit)) (lent (now (gathering .exit)) (now (addresses .exit)) (now (output .exit))) ≡ feedWords (now (words .entry)) (now (piece .entry)) (lent (now (gathering .entry)) (now (addresses .entry)) (now (output .entry))) ⌝ }
 {
     match load(words) {
         Loaded::Nothing => feed_refused(Refusal::UNMAKEABLE_STATE),
         Loaded::Is(reader) => {
-            let fed = reader.feed(piece, gathering, output);
+            let fed = reader.feed(piece, gathering, addresses, output);
             let answer = fed.answer;
             match answer {
                 FeedAnswer::Refused(why) => feed_refused(why),
@@ -169,12 +203,18 @@ pub enum Tried {
 }
 
 // The words of an open reader between two capsules: most feedings find a whole capsule there, and leave the words as they are.
-fn try_between(words: &mut [u64; 8], piece: &[u8], gathering: &mut [u8], output: &mut [u8]) -> Tried
+fn try_between(
+    words: &mut [u64; 8],
+    piece: &[u8],
+    gathering: &mut [u8],
+    addresses: &[u8],
+    output: &mut [u8],
+) -> Tried
     requires { ⌜ readerIn (now words) ≡ Is (fresh (openingIn (now words))) ⌝ }
-    ensures { λ r. ⌜ TriedRight (now (words .entry)) (now (piece .entry)) (lent (now (gathering .entry)) (now (output .entry))) r (now (words .exit)) (lent (now (gathering .exit)) (now (output .exit))) ⌝ }
+    ensures { λ r. ⌜ TriedRight (now (words .entry)) (now (piece .entry)) (lent (now (gathering .entry)) (now (addresses .entry)) (now (output .entry))) r (now (words .exit)) (lent (now (gathering .exit)) (now (addresses .entry)) (now (output .exit))) ⌝ }
 {
     let opening = opening_in(words);
-    match opening.feed_whole(piece, gathering, output) {
+    match opening.feed_whole(piece, gathering, addresses, output) {
         Whole::Not => Tried::Not,
         Whole::Took {
             consumed,
@@ -201,13 +241,27 @@ fn try_between(words: &mut [u64; 8], piece: &[u8], gathering: &mut [u8], output:
 }
 
 // The words of an open reader within a value: most pieces of a long one lie within it.
-fn try_within(words: &mut [u64; 8], piece: &[u8], gathering: &mut [u8], output: &mut [u8]) -> Tried
+fn try_within(
+    words: &mut [u64; 8],
+    piece: &[u8],
+    gathering: &mut [u8],
+    addresses: &[u8],
+    output: &mut [u8],
+) -> Tried
     requires { ⌜ readerIn (now words) ≡ Is (inValue (openingIn (now words)) (getD (now words) 4 0) (getD (now words) 5 0) (getD (now words) 6 0)) ⌝ }
-    ensures { λ r. ⌜ TriedRight (now (words .entry)) (now (piece .entry)) (lent (now (gathering .entry)) (now (output .entry))) r (now (words .exit)) (lent (now (gathering .exit)) (now (output .exit))) ⌝ }
+    ensures { λ r. ⌜ TriedRight (now (words .entry)) (now (piece .entry)) (lent (now (gathering .entry)) (now (addresses .entry)) (now (output .entry))) r (now (words .exit)) (lent (now (gathering .exit)) (now (addresses .entry)) (now (output .exit))) ⌝ }
 {
     let opening = opening_in(words);
     let left = words[6];
-    match opening.feed_inside(words[4], words[5], left, piece, gathering, output) {
+    match opening.feed_inside(
+        words[4],
+        words[5],
+        left,
+        piece,
+        gathering,
+        addresses,
+        output,
+    ) {
         Inside::Not => Tried::Not,
         Inside::Took { written } => {
             copied(words);
@@ -229,13 +283,19 @@ fn try_within(words: &mut [u64; 8], piece: &[u8], gathering: &mut [u8], output: 
     }
 }
 
-fn try_short(words: &mut [u64; 8], piece: &[u8], gathering: &mut [u8], output: &mut [u8]) -> Tried
-    ensures { λ r. ⌜ TriedRight (now (words .entry)) (now (piece .entry)) (lent (now (gathering .entry)) (now (output .entry))) r (now (words .exit)) (lent (now (gathering .exit)) (now (output .exit))) ⌝ }
+fn try_short(
+    words: &mut [u64; 8],
+    piece: &[u8],
+    gathering: &mut [u8],
+    addresses: &[u8],
+    output: &mut [u8],
+) -> Tried
+    ensures { λ r. ⌜ TriedRight (now (words .entry)) (now (piece .entry)) (lent (now (gathering .entry)) (now (addresses .entry)) (now (output .entry))) r (now (words .exit)) (lent (now (gathering .exit)) (now (addresses .entry)) (now (output .exit))) ⌝ }
 {
     match standing_of(words) {
         Standing::Other => Tried::Not,
-        Standing::Between => try_between(words, piece, gathering, output),
-        Standing::Within => try_within(words, piece, gathering, output),
+        Standing::Between => try_between(words, piece, gathering, addresses, output),
+        Standing::Within => try_within(words, piece, gathering, addresses, output),
     }
 }
 
@@ -244,13 +304,14 @@ pub extern "C" fn mrz_reader_feed(
     words: &mut [u64; 8],
     piece: &[u8],
     gathering: &mut [u8],
+    addresses: &mut [u8],
     output: &mut [u8],
 ) -> FedAnswer
-    ensures { λ r. ⌜ fed r (now (words .exit)) (lent (now (gathering .exit)) (now (output .exit))) ≡ feedWords (now (words .entry)) (now (piece .entry)) (lent (now (gathering .entry)) (now (output .entry))) ⌝ }
+    ensures { λ r. ⌜ fed r (now (words .exit)) (lent (now (gathering .exit)) (now (addresses .exit)) (now (output .exit))) ≡ feedWords (now (words .entry)) (now (piece .entry)) (lent (now (gathering .entry)) (now (addresses .entry)) (now (output .entry))) ⌝ }
 {
-    match try_short(words, piece, gathering, output) {
+    match try_short(words, piece, gathering, addresses, output) {
         Tried::Fed(answer) => answer,
-        Tried::Not => feed_loaded(words, piece, gathering, output),
+        Tried::Not => feed_loaded(words, piece, gathering, addresses, output),
     }
 }
 

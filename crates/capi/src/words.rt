@@ -1,6 +1,6 @@
 // A reader kept in eight words of the host's (see specs/Words.antt).
 ghost use mathlib.Core.Path.{_≡_};
-ghost use Rattle.capi.specs.Words.{roleNumber, wordsOf, phaseIn, readerIn, openingIn};
+ghost use Rattle.capi.specs.Words.{roleNumber, settingsNumber, draftIn, addressesIn, wordsOf, phaseIn, readerIn, openingIn};
 ghost use Rattle.capi.specs.Standing.{Stands};
 use crate::numbers::bit_of;
 use crate::numbers::flag_of;
@@ -57,13 +57,27 @@ fn load_phase(kind: u64, a: u64, b: u64, c: u64) -> LoadedPhase
     LoadedPhase::Nothing
 }
 
+// The settings of an opening by their word.
+fn draft_in(settings: u64) -> bool
+    ensures { λ r. ⌜ r ≡ draftIn settings ⌝ }
+{
+    settings % 2 == 1
+}
+
+fn addresses_in(settings: u64) -> bool
+    ensures { λ r. ⌜ r ≡ addressesIn settings ⌝ }
+{
+    settings > 1
+}
+
 pub(crate) fn load(words: &[u64; 8]) -> Loaded
     ensures { λ r. ⌜ r ≡ readerIn (now (words .entry)) ⌝ }
 {
     if words[0] > 1 {
         return Loaded::Nothing;
     }
-    if words[2] > 1 {
+    let settings = words[2];
+    if settings > 3 {
         return Loaded::Nothing;
     }
     if words[7] > 1 {
@@ -75,7 +89,8 @@ pub(crate) fn load(words: &[u64; 8]) -> Loaded
             let opening = Opening {
                 role: role_of(words[0]),
                 limit: words[1],
-                draft: flag_of(words[2]),
+                draft: draft_in(settings),
+                addresses: addresses_in(settings),
             };
             Loaded::Is(Reader {
                 opening: opening,
@@ -86,7 +101,8 @@ pub(crate) fn load(words: &[u64; 8]) -> Loaded
     }
 }
 
-// Where an open reader stands, as far as a short way goes by it.
+// Where an open reader stands, as far as a short way goes by it. One that opted in goes the general way: a test for it on the short
+// ways costs every reader time.
 pub enum Standing {
     Other,
     Between,
@@ -130,7 +146,8 @@ pub(crate) fn opening_in(words: &[u64; 8]) -> Opening
     Opening {
         role: role_of(words[0]),
         limit: words[1],
-        draft: flag_of(words[2]),
+        draft: draft_in(words[2]),
+        addresses: addresses_in(words[2]),
     }
 }
 
@@ -143,6 +160,18 @@ fn role_number(role: Role) -> u64
     }
 }
 
+fn settings_number(draft: bool, addresses: bool) -> u64
+    ensures { λ r. ⌜ r ≡ settingsNumber draft addresses ⌝ }
+{
+    if addresses {
+        if draft {
+            return 3;
+        }
+        return 2;
+    }
+    bit_of(draft)
+}
+
 fn words_of(reader: Reader) -> [u64; 8]
     ensures { λ r. ⌜ r ≡ wordsOf reader ⌝ }
 {
@@ -150,14 +179,14 @@ fn words_of(reader: Reader) -> [u64; 8]
     let kind = opening.role;
     let role = role_number(kind);
     let limit = opening.limit;
-    let draft = bit_of(opening.draft);
+    let settings = settings_number(opening.draft, opening.addresses);
     let finished = bit_of(reader.finished);
     let phase = reader.phase;
     match phase {
         Phase::InType(part) => [
             role,
             limit,
-            draft,
+            settings,
             0,
             wide(part.have),
             part.raw,
@@ -167,7 +196,7 @@ fn words_of(reader: Reader) -> [u64; 8]
         Phase::InLength(ctype, part) => [
             role,
             limit,
-            draft,
+            settings,
             1,
             ctype,
             wide(part.have),
@@ -175,7 +204,7 @@ fn words_of(reader: Reader) -> [u64; 8]
             finished,
         ],
         Phase::InValue(ctype, length, left) => {
-            [role, limit, draft, 2, ctype, length, left, finished]
+            [role, limit, settings, 2, ctype, length, left, finished]
         }
     }
 }

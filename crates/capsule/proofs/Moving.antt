@@ -16,9 +16,11 @@ use Rattle.wire.proofs.Numbers.{pow-256, length-bytesOf, sets-append}
 use Rattle.capsule.specs.Book.{onlyIf}
 use Rattle.capsule.specs.declared.plan.Plan.{Plan}
 use Rattle.capsule.specs.declared.reader.Reader.{Reader}
+use Rattle.capsule.specs.declared.reader.Ended.{Ended}
 use Rattle.capsule.specs.declared.reader.FeedAnswer.the-variants.{Took}
 use Rattle.capsule.specs.Calls.{Lent, lent}
-use Rattle.capsule.specs.Reader.{planOf, heldOf, wrote, stored, feeding, fedBy, takeOf}
+use Rattle.capsule.specs.Kinds.{finishesIn}
+use Rattle.capsule.specs.Reader.{planOf, heldOf, wrote, stored, judgedIn, feeding, fedBy, takeOf}
 use Rattle.capsule.specs.Moves.{Wrote}
 
 -- ---- a number's bytes, from the first on
@@ -88,11 +90,13 @@ module _ (p o : List ℕ) (forward : Bool) (held : Partial) (consumed : ℕ) whe
 
 -- ---- a feeding without its refusals
 
--- planned and moved as said, it is the whole of it
-pub takes : (r : Reader) (p : List ℕ) (b : Lent) (held : Partial) (plan : Plan) (written : ℕ) (g o : List ℕ)
+-- planned and moved as said, and judged by what then stands in the second buffer, it is the whole of it
+pub takes : (r : Reader) (p : List ℕ) (b : Lent) (held : Partial) (plan : Plan) (written : ℕ) (g a o : List ℕ) (ended : Ended) (last : Bool)
     → held ≡ heldOf (r .phase) → plan ≡ planOf (r .opening) p (r .phase)
     → g ≡ stored (plan .store) (plan .at) (plan .consumed) (plan .place) p (b .gathering)
+    → a ≡ stored (plan .keep) (plan .at) (plan .consumed) (plan .place) p (b .addresses)
     → Wrote (wrote (plan .forward) held (plan .consumed) p) (b .output) written o
-    → feeding (record { opening = r .opening; phase = plan .next; finished = false }) (Took (plan .consumed) written (plan .ended)) (lent g o) ≡ takeOf r p b
+    → ended ≡ judgedIn (plan .ended) a → last ≡ finishesIn ended
+    → feeding (record { opening = r .opening; phase = plan .next; finished = last }) (Took (plan .consumed) written ended) (lent g a o) ≡ takeOf r p b
 unfolding takeOf fedBy
-takes r p b held plan written g o isHeld isPlan s w = rw (← isHeld, ← isPlan, s, w .counted, w .placed)
+takes r p b held plan written g a o ended last isHeld isPlan s k w e f = rw (← isHeld, ← isPlan, f, e, s, k, w .counted, w .placed)

@@ -21,6 +21,7 @@ use Rattle.capsule.specs.declared.plan.Reached.{Reached}
 use Rattle.capsule.specs.declared.plan.Header.{Header}
 use Rattle.capsule.specs.declared.plan.Header.the-variants.{Long, Short}
 use Rattle.capsule.specs.declared.plan.Reached.the-variants.{Stops, Value}
+use Rattle.capsule.specs.Kinds.{extentOf}
 use Rattle.capsule.specs.Reader.{noBytes, planValue, planType}
 use Rattle.capsule.specs.Reaching.{planBy, Within, Reaches}
 use Rattle.capsule.specs.Short.{shortHeader, firstHeader}
@@ -31,7 +32,7 @@ module _ (op : Opening) (p : List ℕ) where
   unfolding planBy Within
   stops plan plan′ e = record { plans = e; within = tt }
 
-  pub values : (at t n left : ℕ) (plan : Plan) → at ≤ length p → left ≤ n → planValue op p at t n left ≡ plan → Reaches op p (Value at t n left) plan
+  pub values : (at t n left : ℕ) (plan : Plan) → at ≤ length p → left ≤ extentOf op t n → planValue op p at t n left ≡ plan → Reaches op p (Value at t n left) plan
   unfolding planBy Within
   values at t n left plan a l e = record { plans = e; within = (a, l) }
 
@@ -43,7 +44,7 @@ module _ (op : Opening) (p : List ℕ) where
   unfolding planBy
   valued r at t n left plan h e = rw e at (h .plans)
 
-  pub value-within : (r : Reached) (at t n left : ℕ) (plan : Plan) → Reaches op p r plan → r ≡ Value at t n left → (at ≤ length p) × (left ≤ n)
+  pub value-within : (r : Reached) (at t n left : ℕ) (plan : Plan) → Reaches op p r plan → r ≡ Value at t n left → (at ≤ length p) × (left ≤ extentOf op t n)
   unfolding Within
   value-within r at t n left plan h e = rw e at (h .within)
 
@@ -54,7 +55,7 @@ begins s v k e = sym (begins-whole s (readVarint s) refl v k e ∙ ap (λ (q : P
 
 -- a type of one byte, and a length that is whole
 header : (op : Opening) (p : List ℕ) (n k : ℕ) → 0 < length p → getD p 0 0 < 64 → readVarint (drop 1 p) ≡ Whole n k
-    → planType op p noBytes ≡ planValue op p (1 + k) (getD p 0 0) n n
+    → planType op p noBytes ≡ planValue op p (1 + k) (getD p 0 0) n (extentOf op (getD p 0 0) n)
 header op p n k l h e =
     type-ends op p noBytes 1 (getD p 0 0) (begins p (getD p 0 0) 1 (front-one p l h)) ∙ length-ends op p 1 (getD p 0 0) noBytes k n (begins (drop 1 p) n k e)
 
@@ -71,18 +72,18 @@ two-bytes (a ∷ b ∷ []) h = absurd (let z : ⊥ = omega arith in z)
 two-bytes (a ∷ b ∷ c ∷ p) h = omega arith
 
 module _ (op : Opening) (p : List ℕ) (l : 3 ≤ length p) (h : getD p 0 0 ≤ 63) where
-  short-one : getD p 1 0 < 64 → Reaches op p (Value 2 (getD p 0 0) (getD p 1 0) (getD p 1 0)) (planType op p noBytes)
+  short-one : getD p 1 0 < 64 → Reaches op p (Value 2 (getD p 0 0) (getD p 1 0) (extentOf op (getD p 0 0) (getD p 1 0))) (planType op p noBytes)
   short-one k =
-      values op p 2 (getD p 0 0) (getD p 1 0) (getD p 1 0) (planType op p noBytes) (omega arith) (omega arith)
+      values op p 2 (getD p 0 0) (getD p 1 0) (extentOf op (getD p 0 0) (getD p 1 0)) (planType op p noBytes) (omega arith) (omega arith)
       (sym (header op p (getD p 1 0) 1 (omega arith) (omega arith) (front-one (drop 1 p) (omega (arith, length-drop 1 p)) (omega (arith, second p)) ∙ ap (λ (n : ℕ). Whole n 1) (second p))))
 
   short-two : 64 ≤ getD p 1 0 → getD p 1 0 ≤ 127 → getD p 2 0 < 256
       → let n = (getD p 1 0 - 64) * 256 + getD p 2 0 in
-      Reaches op p (Value 3 (getD p 0 0) n n) (planType op p noBytes)
+      Reaches op p (Value 3 (getD p 0 0) n (extentOf op (getD p 0 0) n)) (planType op p noBytes)
   short-two m k c =
       let n = (getD p 1 0 - 64) * 256 + getD p 2 0 in
       let v : num (take 2 (drop 1 p)) % 16384 ≡ (getD p 1 0 - 64) * 256 + getD p 2 0 = omega (arith, two-bytes p (omega arith)) in
-      values op p 3 (getD p 0 0) n n (planType op p noBytes) (omega arith) (omega arith)
+      values op p 3 (getD p 0 0) n (extentOf op (getD p 0 0) n) (planType op p noBytes) (omega arith) (omega arith)
       (sym (header op p n 2 (omega arith) (omega arith) (front-whole (drop 1 p) 1 (omega (arith, length-drop 1 p)) (omega (arith, second p)) (omega (arith, length-drop 1 p)) ∙ ap (λ (m : ℕ). Whole m 2) v)))
 
 -- as the code reads a short header
@@ -112,7 +113,7 @@ module _ (p : List ℕ) (l : 3 ≤ length p) (t : ℕ) (isT : t ≡ getD p 0 0) 
 -- what a short header comes to
 unfoldable ShortReaches : Opening → List ℕ → Header → Type 0
 ShortReaches op p Long = Unit {0}
-ShortReaches op p (Short at t n) = Reaches op p (Value at t n n) (planType op p noBytes)
+ShortReaches op p (Short at t n) = Reaches op p (Value at t n (extentOf op t n)) (planType op p noBytes)
 
 short-reaches : (op : Opening) (p : List ℕ) → getD p 2 0 < 256 → ShortReaches op p (shortHeader p)
 unfolding shortHeader ShortReaches
@@ -126,7 +127,7 @@ short-reaches op p c = go (leb 3 (length p)) refl (leb (getD p 0 0) 63) refl (lt
         rw (l, e, f, g) (short-two op p (leb-true 3 (length p) l) (leb-true (getD p 0 0) 63 e) (ltb-false (getD p 1 0) 64 f) (leb-true (getD p 1 0) 127 g) c)
     go true l true e false f false g = rw (l, e, f, g) tt
 
-pub short-reached : (op : Opening) (p : List ℕ) (at t n : ℕ) → getD p 2 0 < 256 → shortHeader p ≡ Short at t n → Reaches op p (Value at t n n) (planType op p noBytes)
+pub short-reached : (op : Opening) (p : List ℕ) (at t n : ℕ) → getD p 2 0 < 256 → shortHeader p ≡ Short at t n → Reaches op p (Value at t n (extentOf op t n)) (planType op p noBytes)
 unfolding ShortReaches
 short-reached op p at t n c e = rw e at (short-reaches op p c)
 
@@ -141,11 +142,11 @@ unfolding firstHeader
 first-some have p h = rw (ne-eqb have 0 h)
 
 pub first-reached : (op : Opening) (p : List ℕ) (part : Partial) → isPartial part ≡ true → getD p 2 0 < 256 → (at t n : ℕ) → firstHeader (part .have) p ≡ Short at t n
-    → Reaches op p (Value at t n n) (planType op p part)
+    → Reaches op p (Value at t n (extentOf op t n)) (planType op p part)
 unfolding firstHeader isPartial
 first-reached op p part m c at t n e = go (eqb (part .have) 0) refl
   where
-    go : (b : Bool) → eqb (part .have) 0 ≡ b → Reaches op p (Value at t n n) (planType op p part)
+    go : (b : Bool) → eqb (part .have) 0 ≡ b → Reaches op p (Value at t n (extentOf op t n)) (planType op p part)
     go false f = zero-one (cc (rw f at e))
     go true f =
         let h : part .have ≡ 0 = eqb-true (part .have) 0 f in

@@ -1,13 +1,12 @@
 -- Demand 3's book (document 01's term): it holds the opening, the stream and a finished mark, reads the stream by the grammar, and never sees a reader.
 use Prim.Native.Nat.{ℕ, suc}
-use mathlib.Core.Bool.{Bool, true, false, cond}
+use mathlib.Core.Bool.{Bool, true, false, cond, _||_}
 use mathlib.Core.Option.{Option, none, some}
 use mathlib.Core.List.{List, [], _∷_, _++_}
 use lib.ListN.{length, drop}
 use Rattle.refusals.specs.Numbers.{finished}
 use Rattle.capsule.specs.declared.opening.Opening.{Opening}
 use Rattle.capsule.specs.declared.opening.Report.{Report}
-use Rattle.capsule.specs.declared.opening.Report.the-variants.{Delivered, Dropped, Skipped, Passed}
 use Rattle.capsule.specs.declared.reader.Ended.{Ended}
 use Rattle.capsule.specs.declared.reader.Ended.the-variants.{Nothing, Capsule}
 use Rattle.capsule.specs.declared.reader.CloseAnswer.{CloseAnswer}
@@ -15,9 +14,14 @@ use Rattle.capsule.specs.declared.reader.CloseAnswer.the-variants.{Clean
 use Rattle.capsule.specs.declared.reader.Verdict.{Verdict}
 use Rattle.capsule.specs.declared.reader.Verdict.the-variants.{Accepted, Refused}
 use Rattle.capsule.specs.Grammar as grammar
-use Rattle.capsule.specs.Grammar.{Stage, inType, inLength, inValue, Parts, parts}
-use Rattle.capsule.specs.Kinds.{reportOf, forwards}
+use Rattle.capsule.specs.Grammar.{Stage, inType, inLength, inValue, Parts, partsBy}
+use Rattle.capsule.specs.Kinds.{extentOf, reportOf, judged, finishesIn, onlyDelivered, forwards}
 use Rattle.capsule.specs.Calls.{Lent, Call, feed, close, Reply, refused, fed, closed, lentVerdict}
+
+-- ---- the stream, as the opening has it read: the ONE place where it is asked what is complete
+
+unfoldable pub partsFor : Opening → List ℕ → Parts
+partsFor op s = partsBy (extentOf op) s
 
 -- ---- forwarded bytes
 
@@ -39,7 +43,7 @@ unfoldable pub fromParts : Opening → Parts → List ℕ
 fromParts op p = fromCapsules op (p .capsules) ++ fromTail op (p .tail) (p .stage)
 
 unfoldable pub forwarded : Opening → List ℕ → List ℕ
-forwarded op s = fromParts op (parts s)
+forwarded op s = fromParts op (partsFor op s)
 
 -- ---- feeding
 
@@ -48,8 +52,8 @@ firstOf [] = none
 firstOf (c ∷ cs) = some c
 
 -- the capsule that the byte b completes behind s, if it completes one
-unfoldable pub completes : List ℕ → ℕ → Option grammar.Capsule
-completes s b = firstOf (drop (length (parts s .capsules)) (parts (s ++ (b ∷ [])) .capsules))
+unfoldable pub completes : Opening → List ℕ → ℕ → Option grammar.Capsule
+completes op s b = firstOf (drop (length (partsFor op s .capsules)) (partsFor op (s ++ (b ∷ [])) .capsules))
 
 pub record Taken : Type 0 where
   pub stream : List ℕ
@@ -57,32 +61,26 @@ pub record Taken : Type 0 where
   pub capsule : Option grammar.Capsule
 
 -- a piece's bytes are appended one by one, up to one that completes a capsule
-unfoldable pub append : List ℕ → List ℕ → Taken
-append s [] = record { stream = s; consumed = 0; capsule = none }
-append s (b ∷ p) =
-    let rest = append (s ++ (b ∷ [])) p in
-    elim (completes s b) [
+unfoldable pub append : Opening → List ℕ → List ℕ → Taken
+append op s [] = record { stream = s; consumed = 0; capsule = none }
+append op s (b ∷ p) =
+    let rest = append op (s ++ (b ∷ [])) p in
+    elim (completes op s b) [
       | none ↦ record { stream = rest .stream; consumed = suc (rest .consumed); capsule = rest .capsule }
       | some c ↦ record { stream = s ++ (b ∷ []); consumed = 1; capsule = some c }
     ]
 
 unfoldable pub reported : Opening → grammar.Capsule → Report
-reported op c = reportOf op (c .ctype) (length (c .value))
+reported op c = judged (reportOf op (c .ctype) (c .size)) (c .value)
 
 unfoldable pub endedBy : Opening → Option grammar.Capsule → Ended
 endedBy op none = Nothing
 endedBy op (some c) = Capsule (reported op c)
 
-unfoldable pub onlyDelivered : Report → List ℕ → List ℕ
-onlyDelivered (Delivered n) value = value
-onlyDelivered (Dropped n) value = []
-onlyDelivered (Skipped t n) value = []
-onlyDelivered (Passed t n) value = []
-
--- a delivered payload is the capsule's value
+-- a delivered payload, and a delivered address value, is the capsule's value
 unfoldable pub payloadBy : Opening → Option grammar.Capsule → List ℕ
 payloadBy op none = []
-payloadBy op (some c) = onlyDelivered (reported op c) (c .value)
+payloadBy op (some c) = onlyDelivered (reported op c) (c .value) (c .value)
 
 -- ---- the book
 
@@ -96,19 +94,21 @@ newBook op = record { opening = op; stream = []; mark = false }
 
 unfoldable pub bookVerdict : Book → List ℕ → Lent → Verdict
 bookVerdict k piece buffers =
-    cond (k .mark) (Refused finished) (lentVerdict (k .opening) (length piece) (length (buffers .gathering)) (length (buffers .output)))
+    cond (k .mark) (Refused finished) (lentVerdict (k .opening) (length piece) (length (buffers .gathering)) (length (buffers .addresses)) (length (buffers .output)))
 
 -- what feeding adds to the forwarded bytes is written
 unfoldable pub gained : Opening → List ℕ → List ℕ → List ℕ
 gained op before after = drop (length (forwarded op before)) (forwarded op after)
 
+-- a malformed capsule sets the mark
 unfoldable pub bookFeed : Book → List ℕ → Verdict → Book × Reply
 bookFeed k piece (Refused r) = (k, refused r)
 bookFeed k piece Accepted =
-    let t = append (k .stream) piece in
+    let t = append (k .opening) (k .stream) piece in
+    let e = endedBy (k .opening) (t .capsule) in
     let w = gained (k .opening) (k .stream) (t .stream) in (
-      record { opening = k .opening; stream = t .stream; mark = k .mark },
-      fed (t .consumed) (length w) w (endedBy (k .opening) (t .capsule)) (payloadBy (k .opening) (t .capsule)),
+      record { opening = k .opening; stream = t .stream; mark = k .mark || finishesIn e },
+      fed (t .consumed) (length w) w e (payloadBy (k .opening) (t .capsule)),
     )
 
 -- a clean close answers clean if the tail is empty
@@ -118,7 +118,7 @@ endOf (b ∷ r) = Truncated
 
 unfoldable pub bookClose : Book → Bool → Book × Reply
 bookClose k true = (k, refused finished)
-bookClose k false = (record { opening = k .opening; stream = k .stream; mark = true }, closed (endOf (parts (k .stream) .tail)))
+bookClose k false = (record { opening = k .opening; stream = k .stream; mark = true }, closed (endOf (partsFor (k .opening) (k .stream) .tail)))
 
 unfoldable pub bookCall : Book → Call → Book × Reply
 bookCall k (feed piece buffers) = bookFeed k piece (bookVerdict k piece buffers)

@@ -1,10 +1,10 @@
 -- Calls on an open reader, and what is compared of their answers (demand 3).
 use Prim.Native.Nat.{ℕ, _+_}
-use mathlib.Core.Bool.{cond}
+use mathlib.Core.Bool.{true, false, Bool, cond}
 use mathlib.Core.List.{List, [], _∷_}
 use lib.Dec.{leb}
 use Rattle.refusals.specs.declared.Refusal.{Refusal}
-use Rattle.refusals.specs.Numbers.{gatheringTooShort, outputTooShort}
+use Rattle.refusals.specs.Numbers.{gatheringTooShort, addressesTooShort, outputTooShort}
 use Rattle.capsule.specs.declared.opening.Role.{Role}
 use Rattle.capsule.specs.declared.opening.Role.the-variants.{Endpoint, Intermediary}
 use Rattle.capsule.specs.declared.opening.Opening.{Opening}
@@ -12,34 +12,43 @@ use Rattle.capsule.specs.declared.reader.Ended.{Ended}
 use Rattle.capsule.specs.declared.reader.CloseAnswer.{CloseAnswer}
 use Rattle.capsule.specs.declared.reader.Verdict.{Verdict}
 use Rattle.capsule.specs.declared.reader.Verdict.the-variants.{Accepted, Refused}
+use Rattle.addresses.specs.Addresses.{longestAddressValue}
+use Rattle.capsule.specs.Kinds.{opted}
 
--- the buffers that a feeding is lent
+-- the buffers that a feeding is lent: the second one is for address capsules
 pub record Lent : Type 0 where
   pub gathering : List ℕ
+  pub addresses : List ℕ
   pub output : List ℕ
 
-abbrev pub lent : List ℕ → List ℕ → Lent
-lent g o = record { gathering = g; output = o }
+abbrev pub lent : List ℕ → List ℕ → List ℕ → Lent
+lent g a o = record { gathering = g; addresses = a; output = o }
 
 pub data Call : Type 0 where
   feed : (piece : List ℕ) (buffers : Lent) → Call
   close : Call
 
--- an answer: a refusal; the consumed and written counts, the bytes written, what ended and the delivered payload as it stands
--- at its report; or how a clean close found the stream
+-- an answer: a refusal; the consumed and written counts, the bytes written, what ended and the delivered payload or address value as it
+-- stands at its report; or how a clean close found the stream
 pub data Reply : Type 0 where
   refused : Refusal → Reply
   fed : (consumed written : ℕ) (wrote : List ℕ) (ended : Ended) (payload : List ℕ) → Reply
   closed : CloseAnswer → Reply
 
--- refusals 4 and 5 of a feeding go by the lengths alone
+-- refusals 4, 18 and 5 of a feeding go by the lengths alone
 unfoldable pub outputVerdict : Role → ℕ → ℕ → Verdict
 outputVerdict Endpoint piece room = Accepted
 outputVerdict Intermediary piece room = cond (leb (piece + 8) room) Accepted (Refused outputTooShort)
 
-unfoldable pub lentVerdict : Opening → ℕ → ℕ → ℕ → Verdict
-lentVerdict op piece gathering output =
-    cond (leb (op .limit) gathering) (outputVerdict (op .role) piece output) (Refused gatheringTooShort)
+unfoldable pub addressesVerdict : Bool → ℕ → Verdict → Verdict
+addressesVerdict true addresses v = cond (leb longestAddressValue addresses) v (Refused addressesTooShort)
+addressesVerdict false addresses v = v
+
+unfoldable pub lentVerdict : Opening → ℕ → ℕ → ℕ → ℕ → Verdict
+lentVerdict op piece gathering addresses output =
+    cond (leb (op .limit) gathering)
+    (addressesVerdict (opted op) addresses (outputVerdict (op .role) piece output))
+    (Refused gatheringTooShort)
 
 -- a list of calls, one after another, on anything that answers calls
 unfoldable pub run : {S : Type 0} → (S → Call → S × Reply) → S → List Call → S × List Reply

@@ -7,17 +7,18 @@ use Rattle.capsule.specs.declared.opening.Opening.{Opening}
 use Rattle.capsule.specs.declared.plan.Plan.{Plan}
 use Rattle.capsule.specs.declared.plan.Reached.{Reached}
 use Rattle.capsule.specs.declared.plan.Reached.the-variants.{Stops, Value}
+use Rattle.capsule.specs.Kinds.{extentOf}
 use Rattle.capsule.specs.Reader.{planValue}
 
 unfoldable pub planBy : Opening → List ℕ → Reached → Plan
 planBy op p (Stops plan) = plan
 planBy op p (Value at t n left) = planValue op p at t n left
 
--- a value starts within the piece, and no more of it is to come than it has
-unfoldable pub Within : List ℕ → Reached → Type 0
-Within p (Stops plan) = Unit {0}
-Within p (Value at t n left) = (at ≤ length p) × (left ≤ n)
+-- a value starts within the piece, and no more of it is to come than is waited for
+unfoldable pub Within : Opening → List ℕ → Reached → Type 0
+Within op p (Stops plan) = Unit {0}
+Within op p (Value at t n left) = (at ≤ length p) × (left ≤ extentOf op t n)
 
 pub record Reaches (op : Opening) (p : List ℕ) (r : Reached) (plan : Plan) : Type 0 where
   pub plans : planBy op p r ≡ plan
-  pub within : Within p r
+  pub within : Within op p r

@@ -13,7 +13,7 @@ use Rattle.wire.specs.Partial.{partial, heldBytes, isPartial, takeVarint}
 use Rattle.capsule.specs.declared.opening.Role.{Role}
 use Rattle.capsule.specs.declared.opening.Opening.{Opening}
 use Rattle.capsule.specs.declared.opening.Report.{Report}
-use Rattle.capsule.specs.declared.opening.Report.the-variants.{Delivered, Dropped, Skipped, Passed}
+use Rattle.capsule.specs.declared.opening.Report.the-variants.{Delivered, Dropped, Skipped, Passed, AddressDelivered, Malformed}
 use Rattle.capsule.specs.declared.plan.Plan.{Plan}
 use Rattle.capsule.specs.declared.reader.Phase.{Phase}
 use Rattle.capsule.specs.declared.reader.Phase.the-variants.{InType, InLength, InValue}
@@ -29,14 +29,14 @@ use Rattle.capsule.specs.declared.reader.CloseAnswer.the-variants as clo
 use Rattle.capsule.specs.declared.reader.Closed.{Closed}
 use Rattle.capsule.specs.declared.reader.Verdict.{Verdict}
 use Rattle.capsule.specs.declared.reader.Verdict.the-variants.{Accepted, Refused}
-use Rattle.capsule.specs.Kinds.{reportOf, forwards, gathers}
+use Rattle.capsule.specs.Kinds.{extentOf, reportOf, judged, finishesIn, onlyDelivered, forwards, gathers, keeps}
 use Rattle.capsule.specs.Calls.{Lent, lent, Call, feed, close, Reply, refused, fed, closed, lentVerdict}
-use Rattle.capsule.specs.Book.{onlyIf, onlyDelivered}
+use Rattle.capsule.specs.Book.{onlyIf}
 
 -- ---- opening
 
-abbrev pub opening : Role → ℕ → Bool → Opening
-opening role limit draft = record { role = role; limit = limit; draft = draft }
+abbrev pub opening : Role → ℕ → Bool → Bool → Opening
+opening role limit draft addresses = record { role = role; limit = limit; draft = draft; addresses = addresses }
 
 abbrev pub noBytes : Partial
 noBytes = partial 0 0
@@ -47,25 +47,25 @@ fresh op = record { opening = op; phase = InType noBytes; finished = false }
 unfoldable pub isOpening : Opening → Bool
 isOpening op = leb (op .limit) 65535
 
-unfoldable pub openOf : Role → ℕ → Bool → Opened
-openOf role limit draft =
-    cond (isOpening (opening role limit draft)) (opened.Ready (fresh (opening role limit draft))) (opened.Refused limitTooLarge)
+unfoldable pub openOf : Role → ℕ → Bool → Bool → Opened
+openOf role limit draft addresses =
+    cond (isOpening (opening role limit draft addresses)) (opened.Ready (fresh (opening role limit draft addresses))) (opened.Refused limitTooLarge)
 
--- ---- refusals 1, 2, 4 and 5
+-- ---- refusals 1, 2, 4, 18 and 5
 
 -- which states opening, feeding and closing make (see the claim `MakeableExactly`)
-unfoldable pub isMakeablePhase : Phase → Bool
-isMakeablePhase (InType part) = isPartial part
-isMakeablePhase (InLength t part) = leb t largest && isPartial part
-isMakeablePhase (InValue t n left) = leb t largest && (leb n largest && (ltb 0 left && leb left n))
+unfoldable pub isMakeablePhase : Opening → Phase → Bool
+isMakeablePhase op (InType part) = isPartial part
+isMakeablePhase op (InLength t part) = leb t largest && isPartial part
+isMakeablePhase op (InValue t n left) = leb t largest && (leb n largest && (ltb 0 left && leb left (extentOf op t n)))
 
 unfoldable pub isMakeable : Reader → Bool
-isMakeable r = isOpening (r .opening) && isMakeablePhase (r .phase)
+isMakeable r = isOpening (r .opening) && isMakeablePhase (r .opening) (r .phase)
 
-unfoldable pub verdictOf : Reader → ℕ → ℕ → ℕ → Verdict
-verdictOf r piece gathering output =
+unfoldable pub verdictOf : Reader → ℕ → ℕ → ℕ → ℕ → Verdict
+verdictOf r piece gathering addresses output =
     cond (isMakeable r)
-    (cond (r .finished) (Refused finished) (lentVerdict (r .opening) piece gathering output))
+    (cond (r .finished) (Refused finished) (lentVerdict (r .opening) piece gathering addresses output))
     (Refused unmakeableState)
 
 -- ---- what a feeding is to do
@@ -74,20 +74,20 @@ verdictOf r piece gathering output =
 unfoldable pub planValue : Opening → List ℕ → ℕ → ℕ → ℕ → ℕ → Plan
 planValue op p at t n left =
     cond (leb left (length p - at))
-    (record { next = InType noBytes; consumed = at + left; ended = Capsule (reportOf op t n); forward = forwards op t; store = gathers op t n; at = at; place = n - left })
-    (record { next = InValue t n (left - (length p - at)); consumed = length p; ended = Nothing; forward = forwards op t; store = gathers op t n; at = at; place = n - left })
+    (record { next = InType noBytes; consumed = at + left; ended = Capsule (reportOf op t n); forward = forwards op t; store = gathers op t n; keep = keeps op t n; at = at; place = extentOf op t n - left })
+    (record { next = InValue t n (left - (length p - at)); consumed = length p; ended = Nothing; forward = forwards op t; store = gathers op t n; keep = keeps op t n; at = at; place = extentOf op t n - left })
 
 -- the piece ends before the value
 unfoldable pub planHead : Phase → ℕ → Bool → Plan
 planHead next consumed forward =
-    record { next = next; consumed = consumed; ended = Nothing; forward = forward; store = false; at = 0; place = 0 }
+    record { next = next; consumed = consumed; ended = Nothing; forward = forward; store = false; keep = false; at = 0; place = 0 }
 
 -- the length stands in the piece from `at` on, behind the part of it that came before
 unfoldable pub planLength : Opening → List ℕ → ℕ → ℕ → Partial → Plan
 planLength op p at t part = elim (takeVarint part (drop at p)) [
   | Impossible ↦ planHead (InLength t part) 0 false
   | More part′ ↦ planHead (InLength t part′) (length p) (forwards op t)
-  | Ends used n ↦ planValue op p (at + used) t n n
+  | Ends used n ↦ planValue op p (at + used) t n (extentOf op t n)
 ]
 
 unfoldable pub planType : Opening → List ℕ → Partial → Plan
@@ -110,7 +110,7 @@ heldOf (InType part) = part
 heldOf (InLength t part) = noBytes
 heldOf (InValue t n left) = noBytes
 
--- what goes to the output, and what becomes of the gathering buffer
+-- what goes to the output, and what becomes of the two buffers for values
 unfoldable pub wrote : Bool → Partial → ℕ → List ℕ → List ℕ
 wrote forward held consumed p = onlyIf forward (heldBytes held ++ take consumed p)
 
@@ -125,13 +125,29 @@ pub record Feeding : Type 0 where
 abbrev pub feeding : Reader → FeedAnswer → Lent → Feeding
 feeding r a b = record { reader = r; answer = a; buffers = b }
 
+-- an address capsule that ends is judged by what then stands at the front of the second buffer, whatever that is
+unfoldable pub lengthOf : Report → ℕ
+lengthOf (Delivered n) = n
+lengthOf (Dropped n) = n
+lengthOf (Skipped t n) = n
+lengthOf (Passed t n) = n
+lengthOf (AddressDelivered t n) = n
+lengthOf (Malformed t n) = n
+
+unfoldable pub judgedIn : Ended → List ℕ → Ended
+judgedIn Nothing a = Nothing
+judgedIn (Capsule r) a = Capsule (judged r (take (lengthOf r) a))
+
 unfoldable pub fedBy : Opening → Partial → List ℕ → Lent → Plan → Feeding
 fedBy op held p b plan =
     let w = wrote (plan .forward) held (plan .consumed) p in
+    let g = stored (plan .store) (plan .at) (plan .consumed) (plan .place) p (b .gathering) in
+    let a = stored (plan .keep) (plan .at) (plan .consumed) (plan .place) p (b .addresses) in
+    let e = judgedIn (plan .ended) a in
     feeding
-    (record { opening = op; phase = plan .next; finished = false })
-    (fedAs.Took (plan .consumed) (length w) (plan .ended))
-    (lent (stored (plan .store) (plan .at) (plan .consumed) (plan .place) p (b .gathering)) (sets (b .output) 0 w))
+    (record { opening = op; phase = plan .next; finished = finishesIn e })
+    (fedAs.Took (plan .consumed) (length w) e)
+    (lent g a (sets (b .output) 0 w))
 
 -- a feeding without its refusals
 unfoldable pub takeOf : Reader → List ℕ → Lent → Feeding
@@ -142,7 +158,7 @@ feedBy r p b (Refused why) = feeding r (fedAs.Refused why) b
 feedBy r p b Accepted = takeOf r p b
 
 unfoldable pub feedOf : Reader → List ℕ → Lent → Feeding
-feedOf r p b = feedBy r p b (verdictOf r (length p) (length (b .gathering)) (length (b .output)))
+feedOf r p b = feedBy r p b (verdictOf r (length p) (length (b .gathering)) (length (b .addresses)) (length (b .output)))
 
 -- ---- clean close
 
@@ -165,20 +181,14 @@ closeOf r =
 
 -- ---- the calls of demand 3, on a reader
 
--- a delivered payload is what stands at the front of the gathering buffer
-unfoldable pub lengthOf : Report → ℕ
-lengthOf (Delivered n) = n
-lengthOf (Dropped n) = n
-lengthOf (Skipped t n) = n
-lengthOf (Passed t n) = n
-
-unfoldable pub frontOf : Ended → List ℕ → List ℕ
-frontOf Nothing g = []
-frontOf (Capsule r) g = onlyDelivered r (take (lengthOf r) g)
+-- a delivered payload is what stands at the front of the gathering buffer, an address value what stands at the front of the second
+unfoldable pub frontOf : Ended → List ℕ → List ℕ → List ℕ
+frontOf Nothing g a = []
+frontOf (Capsule r) g a = onlyDelivered r (take (lengthOf r) g) (take (lengthOf r) a)
 
 unfoldable pub feedReply : FeedAnswer → Lent → Reply
 feedReply (fedAs.Refused r) b = refused r
-feedReply (fedAs.Took consumed written ended) b = fed consumed written (take written (b .output)) ended (frontOf ended (b .gathering))
+feedReply (fedAs.Took consumed written ended) b = fed consumed written (take written (b .output)) ended (frontOf ended (b .gathering) (b .addresses))
 
 unfoldable pub closeReply : CloseAnswer → Reply
 closeReply (closedAs.Refused r) = refused r

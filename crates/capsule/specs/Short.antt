@@ -17,6 +17,9 @@ use Rattle.capsule.specs.declared.short.Whole.{Whole}
 use Rattle.capsule.specs.declared.short.Whole.the-variants as wholeAs
 use Rattle.capsule.specs.declared.short.Inside.{Inside}
 use Rattle.capsule.specs.declared.short.Inside.the-variants as insideAs
+use Rattle.capsule.specs.declared.opening.Kind.{Kind}
+use Rattle.capsule.specs.declared.opening.Kind.the-variants.{Datagram, Address, Unknown}
+use Rattle.capsule.specs.Kinds.{kindOf}
 use Rattle.capsule.specs.Calls.{Lent}
 use Rattle.capsule.specs.Reader.{fresh, Feeding, feedOf}
 
@@ -33,9 +36,15 @@ shortHeader p =
 unfoldable pub firstHeader : ℕ → List ℕ → Header
 firstHeader have p = cond (eqb have 0) (shortHeader p) Long
 
-unfoldable pub isShort : Header → Bool
-isShort Long = false
-isShort (Short at t n) = true
+-- address capsules are left to the general way
+unfoldable pub isPlain : Kind → Bool
+isPlain Datagram = true
+isPlain Address = false
+isPlain Unknown = true
+
+unfoldable pub isShort : Opening → Header → Bool
+isShort op Long = false
+isShort op (Short at t n) = isPlain (kindOf op t)
 
 pub record WholeFed : Type 0 where
   pub answer : Whole
@@ -57,7 +66,7 @@ wholeBy f = wholeFed (wholeIn (f .answer) (f .reader .phase)) (f .buffers)
 
 -- the feeding of a reader between two capsules, where a short header stands at the front of the piece
 unfoldable pub wholeOf : Opening → List ℕ → Lent → WholeFed
-wholeOf op p b = cond (isShort (shortHeader p)) (wholeBy (feedOf (fresh op) p b)) (wholeFed wholeAs.Not b)
+wholeOf op p b = cond (isShort op (shortHeader p)) (wholeBy (feedOf (fresh op) p b)) (wholeFed wholeAs.Not b)
 
 -- ---- a piece within a value
 
@@ -81,4 +90,4 @@ insideBy f = insideFed (insideIn (f .answer)) (f .buffers)
 
 -- the feeding of a reader in a value
 unfoldable pub insideOf : Opening → ℕ → ℕ → ℕ → List ℕ → Lent → InsideFed
-insideOf op t n left p b = insideBy (feedOf (inValue op t n left) p b)
+insideOf op t n left p b = cond (isPlain (kindOf op t)) (insideBy (feedOf (inValue op t n left) p b)) (insideFed insideAs.Not b)

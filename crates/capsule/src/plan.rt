@@ -4,6 +4,7 @@ ghost use Prim.Native.Nat.{_≤_};
 ghost use mathlib.Core.Bool.{true};
 ghost use lib.ListN.{length};
 ghost use Rattle.wire.specs.Partial.{partial, isPartial};
+ghost use Rattle.capsule.specs.Kinds.{extentOf};
 ghost use Rattle.capsule.specs.Reader.{isMakeablePhase, planValue, planHead, planLength, planType, planOf, heldOf};
 ghost use Rattle.capsule.specs.Reaching.{Reaches};
 ghost use Rattle.capsule.specs.Short.{shortHeader, firstHeader};
@@ -21,6 +22,8 @@ pub struct Plan {
     pub forward: bool,
     // the consumed bytes from `at` on go to the gathering buffer, from `place` on
     pub store: bool,
+    // the same bytes go to the second buffer
+    pub keep: bool,
     pub at: usize,
     pub place: u64,
 }
@@ -52,11 +55,13 @@ fn wide(b: u8) -> u64
 
 // The value stands in the piece from `at` on, and `left` bytes of it are to come.
 fn plan_value(op: Opening, piece: &[u8], at: usize, ctype: u64, size: u64, left: u64) -> Plan
-    requires { ⌜ (at ≤ length (now piece)) × (left ≤ size) ⌝ }
+    requires { ⌜ (at ≤ length (now piece)) × (left ≤ extentOf op ctype size) ⌝ }
     ensures { λ r. ⌜ r ≡ planValue op (now (piece .entry)) at ctype size left ⌝ }
 {
     let forward = op.forwards(ctype);
     let store = op.gathers(ctype, size);
+    let keep = op.keeps(ctype, size);
+    let extent = op.extent(ctype, size);
     let room = (piece.len() - at) as u64;
     if left <= room {
         let report = op.report(ctype, size);
@@ -66,8 +71,9 @@ fn plan_value(op: Opening, piece: &[u8], at: usize, ctype: u64, size: u64, left:
             ended: Ended::Capsule(report),
             forward: forward,
             store: store,
+            keep: keep,
             at: at,
-            place: size - left,
+            place: extent - left,
         };
     }
     Plan {
@@ -76,8 +82,9 @@ fn plan_value(op: Opening, piece: &[u8], at: usize, ctype: u64, size: u64, left:
         ended: Ended::Nothing,
         forward: forward,
         store: store,
+        keep: keep,
         at: at,
-        place: size - left,
+        place: extent - left,
     }
 }
 
@@ -91,6 +98,7 @@ fn plan_head(next: Phase, consumed: usize, forward: bool) -> Plan
         ended: Ended::Nothing,
         forward: forward,
         store: false,
+        keep: false,
         at: 0,
         place: 0,
     }
@@ -112,12 +120,15 @@ fn reach_by_length(op: Opening, piece: &[u8], at: usize, ctype: u64, have: u8, r
             let forward = op.forwards(ctype);
             Reached::Stops(plan_head(Phase::InLength(ctype, more), piece.len(), forward))
         }
-        Taken::Ends { used, value } => Reached::Value {
-            at: at + used,
-            ctype: ctype,
-            size: value,
-            left: value,
-        },
+        Taken::Ends { used, value } => {
+            let most = op.extent(ctype, value);
+            Reached::Value {
+                at: at + used,
+                ctype: ctype,
+                size: value,
+                left: most,
+            }
+        }
     }
 }
 
@@ -178,17 +189,20 @@ fn reach_in_type(op: Opening, piece: &[u8], part: Partial) -> Reached
 {
     match first_header(piece, part.have) {
         Header::Long => reach_by_type(op, piece, part),
-        Header::Short { at, ctype, size } => Reached::Value {
-            at: at,
-            ctype: ctype,
-            size: size,
-            left: size,
-        },
+        Header::Short { at, ctype, size } => {
+            let most = op.extent(ctype, size);
+            Reached::Value {
+                at: at,
+                ctype: ctype,
+                size: size,
+                left: most,
+            }
+        }
     }
 }
 
 fn reach(op: Opening, piece: &[u8], phase: Phase) -> Reached
-    requires { ⌜ isMakeablePhase phase ≡ true ⌝ }
+    requires { ⌜ isMakeablePhase op phase ≡ true ⌝ }
     ensures { λ r. ⌜ Reaches op (now (piece .entry)) r (planOf op (now (piece .entry)) phase) ⌝ }
 {
     match phase {
@@ -205,7 +219,7 @@ fn reach(op: Opening, piece: &[u8], phase: Phase) -> Reached
 
 // The value is planned in one place, so that the plan stays in registers.
 pub(crate) fn plan_of(op: Opening, piece: &[u8], phase: Phase) -> Plan
-    requires { ⌜ isMakeablePhase phase ≡ true ⌝ }
+    requires { ⌜ isMakeablePhase op phase ≡ true ⌝ }
     ensures { λ r. ⌜ r ≡ planOf op (now (piece .entry)) phase ⌝ }
 {
     let reached = reach(op, piece, phase);

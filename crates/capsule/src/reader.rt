@@ -3,16 +3,21 @@ ghost use mathlib.Core.Path.{_≡_};
 ghost use lib.ListN.{length};
 ghost use mathlib.Core.Bool.{true};
 ghost use Rattle.capsule.specs.declared.reader.Phase.the-variants.{InValue};
+ghost use Rattle.capsule.specs.declared.opening.Report.the-variants.{AddressDelivered};
 ghost use Rattle.capsule.specs.declared.reader.Verdict.the-variants.{Accepted};
 ghost use Rattle.capsule.specs.Calls.{lent, lentVerdict};
-ghost use Rattle.capsule.specs.Reader.{openOf, isMakeablePhase, isMakeable, verdictOf, feeding, takeOf, feedOf, endAt, closeOf};
+ghost use Rattle.capsule.specs.Kinds.{judged, finishes, finishesIn};
+ghost use lib.ListN.{take};
+ghost use Rattle.capsule.specs.Reader.{openOf, isMakeablePhase, isMakeable, verdictOf, lengthOf, judgedIn, feeding, takeOf, feedOf, endAt, closeOf};
 use crate::moves::forward_bytes;
 use crate::moves::store_bytes;
+use crate::opening::Kind;
 use crate::opening::Opening;
 use crate::opening::Report;
 use crate::opening::Role;
 use crate::plan::held_of;
 use crate::plan::plan_of;
+use addresses::well_formed;
 use refusals::Refusal;
 use wire::partial::Partial;
 
@@ -75,8 +80,8 @@ pub enum Verdict {
 }
 
 // Whether a value may have so many bytes to come.
-pub(crate) fn is_makeable_value(ctype: u64, length: u64, left: u64) -> bool
-    ensures { λ r. ⌜ r ≡ isMakeablePhase (InValue ctype length left) ⌝ }
+pub(crate) fn is_makeable_value(op: Opening, ctype: u64, length: u64, left: u64) -> bool
+    ensures { λ r. ⌜ r ≡ isMakeablePhase op (InValue ctype length left) ⌝ }
 {
     if ctype > 4611686018427387903 {
         return false;
@@ -87,12 +92,12 @@ pub(crate) fn is_makeable_value(ctype: u64, length: u64, left: u64) -> bool
     if left == 0 {
         return false;
     }
-    left <= length
+    left <= op.extent(ctype, length)
 }
 
 // Whether some stream comes so far.
-fn is_makeable_phase(phase: Phase) -> bool
-    ensures { λ r. ⌜ r ≡ isMakeablePhase phase ⌝ }
+fn is_makeable_phase(op: Opening, phase: Phase) -> bool
+    ensures { λ r. ⌜ r ≡ isMakeablePhase op phase ⌝ }
 {
     match phase {
         Phase::InType(part) => part.is_possible(),
@@ -102,21 +107,35 @@ fn is_makeable_phase(phase: Phase) -> bool
             }
             part.is_possible()
         }
-        Phase::InValue(ctype, length, left) => is_makeable_value(ctype, length, left),
+        Phase::InValue(ctype, length, left) => is_makeable_value(op, ctype, length, left),
     }
 }
 
 impl Opening {
     // What the lengths of the piece and of the lent buffers refuse.
-    pub(crate) fn verdict(self, piece: usize, gathering: usize, output: usize) -> Verdict
-        ensures { λ r. ⌜ r ≡ lentVerdict self piece gathering output ⌝ }
+    pub(crate) fn verdict(
+        self,
+        piece: usize,
+        gathering: usize,
+        addresses: usize,
+        output: usize,
+    ) -> Verdict
+        ensures { λ r. ⌜ r ≡ lentVerdict self piece gathering addresses output ⌝ }
     {
         if (gathering as u64) < self.limit {
             return Verdict::Refused(Refusal::GATHERING_TOO_SHORT);
         }
         let role = self.role;
         match role {
-            Role::Endpoint => Verdict::Accepted,
+            Role::Endpoint => {
+                if !self.addresses {
+                    return Verdict::Accepted;
+                }
+                if (addresses as u64) < Kind::LONGEST_ADDRESS_VALUE {
+                    return Verdict::Refused(Refusal::ADDRESSES_TOO_SHORT);
+                }
+                Verdict::Accepted
+            }
             Role::Intermediary => {
                 if output < 8 {
                     return Verdict::Refused(Refusal::OUTPUT_TOO_SHORT);
@@ -131,9 +150,9 @@ impl Opening {
 }
 
 impl Reader {
-    // Opening fixes the role, the datagram limit and the draft setting.
-    pub fn open(role: Role, limit: u64, draft: bool) -> Opened
-        ensures { λ r. ⌜ r ≡ openOf role limit draft ⌝ }
+    // Opening fixes the role, the datagram limit, the draft setting and whether an endpoint takes address capsules.
+    pub fn open(role: Role, limit: u64, draft: bool, addresses: bool) -> Opened
+        ensures { λ r. ⌜ r ≡ openOf role limit draft addresses ⌝ }
     {
         if limit > Opening::MAX_LIMIT {
             return Opened::Refused(Refusal::LIMIT_TOO_LARGE);
@@ -142,6 +161,7 @@ impl Reader {
             role: role,
             limit: limit,
             draft: draft,
+            addresses: addresses,
         };
         Opened::Ready(Reader {
             opening: opening,
@@ -159,12 +179,12 @@ impl Reader {
             return false;
         }
         let phase = self.phase;
-        is_makeable_phase(phase)
+        is_makeable_phase(opening, phase)
     }
 
     // What a feeding is refused for, by the lengths of the piece and of the lent buffers.
-    pub fn verdict(self, piece: usize, gathering: usize, output: usize) -> Verdict
-        ensures { λ r. ⌜ r ≡ verdictOf self piece gathering output ⌝ }
+    pub fn verdict(self, piece: usize, gathering: usize, addresses: usize, output: usize) -> Verdict
+        ensures { λ r. ⌜ r ≡ verdictOf self piece gathering addresses output ⌝ }
     {
         if !self.is_makeable() {
             return Verdict::Refused(Refusal::UNMAKEABLE_STATE);
@@ -173,13 +193,19 @@ impl Reader {
             return Verdict::Refused(Refusal::FINISHED);
         }
         let opening = self.opening;
-        opening.verdict(piece, gathering, output)
+        opening.verdict(piece, gathering, addresses, output)
     }
 
     // A feeding that is not refused: plan first, then move the bytes.
-    fn take(self, piece: &[u8], gathering: &mut [u8], output: &mut [u8]) -> Fed
-        requires { ⌜ verdictOf self (length (now piece)) (length (now gathering)) (length (now output)) ≡ Accepted ⌝ }
-        ensures { λ r. ⌜ feeding (r .reader) (r .answer) (lent (now (gathering .exit)) (now (output .exit))) ≡ takeOf self (now (piece .entry)) (lent (now (gathering .entry)) (now (output .entry))) ⌝ }
+    fn take(
+        self,
+        piece: &[u8],
+        gathering: &mut [u8],
+        addresses: &mut [u8],
+        output: &mut [u8],
+    ) -> Fed
+        requires { ⌜ verdictOf self (length (now piece)) (length (now gathering)) (length (now addresses)) (length (now output)) ≡ Accepted ⌝ }
+        ensures { λ r. ⌜ feeding (r .reader) (r .answer) (lent (now (gathering .exit)) (now (addresses .exit)) (now (output .exit))) ≡ takeOf self (now (piece .entry)) (lent (now (gathering .entry)) (now (addresses .entry)) (now (output .entry))) ⌝ }
     {
         let opening = self.opening;
         let phase = self.phase;
@@ -193,13 +219,23 @@ impl Reader {
             plan.consumed,
             plan.place,
         );
+        store_bytes(
+            piece,
+            addresses,
+            plan.keep,
+            plan.at,
+            plan.consumed,
+            plan.place,
+        );
         let written = forward_bytes(piece, output, plan.forward, held, plan.consumed);
         let next = plan.next;
-        let ended = plan.ended;
+        let planned = plan.ended;
+        let ended = judge(planned, addresses);
+        let finished = is_last(ended);
         let reader = Reader {
             opening: opening,
             phase: next,
-            finished: false,
+            finished: finished,
         };
         Fed {
             reader: reader,
@@ -212,16 +248,22 @@ impl Reader {
     }
 
     // Consumes the piece up to the end of the first capsule to end in it, or all of it.
-    pub fn feed(self, piece: &[u8], gathering: &mut [u8], output: &mut [u8]) -> Fed
-        ensures { λ r. ⌜ feeding (r .reader) (r .answer) (lent (now (gathering .exit)) (now (output .exit))) ≡ feedOf self (now (piece .entry)) (lent (now (gathering .entry)) (now (output .entry))) ⌝ }
+    pub fn feed(
+        self,
+        piece: &[u8],
+        gathering: &mut [u8],
+        addresses: &mut [u8],
+        output: &mut [u8],
+    ) -> Fed
+        ensures { λ r. ⌜ feeding (r .reader) (r .answer) (lent (now (gathering .exit)) (now (addresses .exit)) (now (output .exit))) ≡ feedOf self (now (piece .entry)) (lent (now (gathering .entry)) (now (addresses .entry)) (now (output .entry))) ⌝ }
     {
-        let verdict = self.verdict(piece.len(), gathering.len(), output.len());
+        let verdict = self.verdict(piece.len(), gathering.len(), addresses.len(), output.len());
         match verdict {
             Verdict::Refused(why) => Fed {
                 reader: self,
                 answer: FeedAnswer::Refused(why),
             },
-            Verdict::Accepted => self.take(piece, gathering, output),
+            Verdict::Accepted => self.take(piece, gathering, addresses, output),
         }
     }
 
@@ -269,5 +311,67 @@ fn end_at(phase: Phase) -> CloseAnswer
         }
         Phase::InLength(_, _) => CloseAnswer::Truncated,
         Phase::InValue(_, _, _) => CloseAnswer::Truncated,
+    }
+}
+
+// A value of an address capsule is judged where it stands: at the front of the second buffer.
+fn judge_address(ctype: u64, length: u64, addresses: &[u8]) -> Report
+    ensures { λ r. ⌜ r ≡ judged (AddressDelivered ctype length) (take length (now (addresses .entry))) ⌝ }
+{
+    if (addresses.len() as u64) < length {
+        if well_formed(ctype, addresses) {
+            return Report::AddressDelivered(ctype, length);
+        }
+        return Report::Malformed(ctype, length);
+    }
+    let n = length as usize;
+    if well_formed(ctype, &addresses[..n]) {
+        return Report::AddressDelivered(ctype, length);
+    }
+    Report::Malformed(ctype, length)
+}
+
+fn judge_report(report: Report, addresses: &[u8]) -> Report
+    ensures { λ r. ⌜ r ≡ judged report (take (lengthOf report) (now (addresses .entry))) ⌝ }
+{
+    match report {
+        Report::Delivered(_) => report,
+        Report::Dropped(_) => report,
+        Report::Skipped(_, _) => report,
+        Report::Passed(_, _) => report,
+        Report::AddressDelivered(ctype, length) => judge_address(ctype, length, addresses),
+        Report::Malformed(_, _) => report,
+    }
+}
+
+fn judge(ended: Ended, addresses: &[u8]) -> Ended
+    ensures { λ r. ⌜ r ≡ judgedIn ended (now (addresses .entry)) ⌝ }
+{
+    match ended {
+        Ended::Nothing => ended,
+        Ended::Capsule(report) => Ended::Capsule(judge_report(report, addresses)),
+    }
+}
+
+// Whether nothing may follow.
+fn is_last_report(report: Report) -> bool
+    ensures { λ r. ⌜ r ≡ finishes report ⌝ }
+{
+    match report {
+        Report::Delivered(_) => false,
+        Report::Dropped(_) => false,
+        Report::Skipped(_, _) => false,
+        Report::Passed(_, _) => false,
+        Report::AddressDelivered(_, _) => false,
+        Report::Malformed(_, _) => true,
+    }
+}
+
+fn is_last(ended: Ended) -> bool
+    ensures { λ r. ⌜ r ≡ finishesIn ended ⌝ }
+{
+    match ended {
+        Ended::Nothing => false,
+        Ended::Capsule(report) => is_last_report(report),
     }
 }

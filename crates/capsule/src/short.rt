@@ -5,11 +5,14 @@ ghost use Prim.Native.Nat.{_≤_};
 ghost use lib.ListN.{length};
 ghost use Rattle.capsule.specs.declared.plan.Header.the-variants.{Short};
 ghost use Rattle.capsule.specs.declared.reader.Verdict.the-variants.{Accepted};
+ghost use mathlib.Core.Bool.{true};
+ghost use Rattle.capsule.specs.Kinds.{kindOf};
 ghost use Rattle.capsule.specs.Calls.{lent};
 ghost use Rattle.capsule.specs.Reader.{fresh, verdictOf};
-ghost use Rattle.capsule.specs.Short.{shortHeader, wholeFed, wholeOf, insideFed, insideOf};
+ghost use Rattle.capsule.specs.Short.{shortHeader, isPlain, wholeFed, wholeOf, insideFed, insideOf};
 use crate::moves::forward_bytes;
 use crate::moves::store_bytes;
+use crate::opening::Kind;
 use crate::opening::Opening;
 use crate::opening::Report;
 use crate::plan::Header;
@@ -51,6 +54,17 @@ pub enum Inside {
 }
 
 impl Opening {
+    // Whether this is no address capsule: those are left to the general way.
+    fn is_plain(self, ctype: u64) -> bool
+        ensures { λ r. ⌜ r ≡ isPlain (kindOf self ctype) ⌝ }
+    {
+        match self.kind(ctype) {
+            Kind::Datagram => true,
+            Kind::Address => false,
+            Kind::Unknown => true,
+        }
+    }
+
     fn take_whole(
         self,
         piece: &[u8],
@@ -58,10 +72,11 @@ impl Opening {
         ctype: u64,
         size: u64,
         gathering: &mut [u8],
+        addresses: &[u8],
         output: &mut [u8],
     ) -> Whole
-        requires { ⌜ (verdictOf (fresh self) (length (now piece)) (length (now gathering)) (length (now output)) ≡ Accepted) × (shortHeader (now piece) ≡ Short at ctype size) × (at ≤ length (now piece)) ⌝ }
-        ensures { λ r. ⌜ wholeFed r (lent (now (gathering .exit)) (now (output .exit))) ≡ wholeOf self (now (piece .entry)) (lent (now (gathering .entry)) (now (output .entry))) ⌝ }
+        requires { ⌜ (verdictOf (fresh self) (length (now piece)) (length (now gathering)) (length (now addresses)) (length (now output)) ≡ Accepted) × (shortHeader (now piece) ≡ Short at ctype size) × (isPlain (kindOf self ctype) ≡ true) × (at ≤ length (now piece)) ⌝ }
+        ensures { λ r. ⌜ wholeFed r (lent (now (gathering .exit)) (now (addresses .entry)) (now (output .exit))) ≡ wholeOf self (now (piece .entry)) (lent (now (gathering .entry)) (now (addresses .entry)) (now (output .entry))) ⌝ }
     {
         let store = self.gathers(ctype, size);
         let forward = self.forwards(ctype);
@@ -88,19 +103,28 @@ impl Opening {
     }
 
     // A feeding between two capsules.
-    pub fn feed_whole(self, piece: &[u8], gathering: &mut [u8], output: &mut [u8]) -> Whole
-        ensures { λ r. ⌜ wholeFed r (lent (now (gathering .exit)) (now (output .exit))) ≡ wholeOf self (now (piece .entry)) (lent (now (gathering .entry)) (now (output .entry))) ⌝ }
+    pub fn feed_whole(
+        self,
+        piece: &[u8],
+        gathering: &mut [u8],
+        addresses: &[u8],
+        output: &mut [u8],
+    ) -> Whole
+        ensures { λ r. ⌜ wholeFed r (lent (now (gathering .exit)) (now (addresses .entry)) (now (output .exit))) ≡ wholeOf self (now (piece .entry)) (lent (now (gathering .entry)) (now (addresses .entry)) (now (output .entry))) ⌝ }
     {
         if self.limit > Opening::MAX_LIMIT {
             return Whole::Not;
         }
-        let verdict = self.verdict(piece.len(), gathering.len(), output.len());
+        let verdict = self.verdict(piece.len(), gathering.len(), addresses.len(), output.len());
         match verdict {
             Verdict::Refused(_) => Whole::Not,
             Verdict::Accepted => match short_header(piece) {
                 Header::Long => Whole::Not,
                 Header::Short { at, ctype, size } => {
-                    self.take_whole(piece, at, ctype, size, gathering, output)
+                    if !self.is_plain(ctype) {
+                        return Whole::Not;
+                    }
+                    self.take_whole(piece, at, ctype, size, gathering, addresses, output)
                 }
             },
         }
@@ -114,18 +138,22 @@ impl Opening {
         left: u64,
         piece: &[u8],
         gathering: &mut [u8],
+        addresses: &[u8],
         output: &mut [u8],
     ) -> Inside
-        ensures { λ r. ⌜ insideFed r (lent (now (gathering .exit)) (now (output .exit))) ≡ insideOf self ctype size left (now (piece .entry)) (lent (now (gathering .entry)) (now (output .entry))) ⌝ }
+        ensures { λ r. ⌜ insideFed r (lent (now (gathering .exit)) (now (addresses .entry)) (now (output .exit))) ≡ insideOf self ctype size left (now (piece .entry)) (lent (now (gathering .entry)) (now (addresses .entry)) (now (output .entry))) ⌝ }
     {
         if self.limit > Opening::MAX_LIMIT {
             return Inside::Not;
         }
-        if !is_makeable_value(ctype, size, left) {
+        if !self.is_plain(ctype) {
+            return Inside::Not;
+        }
+        if !is_makeable_value(self, ctype, size, left) {
             return Inside::Not;
         }
         let n = piece.len();
-        let verdict = self.verdict(n, gathering.len(), output.len());
+        let verdict = self.verdict(n, gathering.len(), addresses.len(), output.len());
         match verdict {
             Verdict::Refused(_) => Inside::Not,
             Verdict::Accepted => {

@@ -13,14 +13,14 @@ use Rattle.wire.specs.Partial.{heldBytes}
 use Rattle.wire.proofs.Reading.{reads, whole-incomplete}
 use Rattle.wire.proofs.Parts.{held-partial}
 use Rattle.capsule.specs.declared.opening.Opening.{Opening}
-use Rattle.capsule.specs.Grammar.{Stage, inType, inLength, inValue, Front, part, whole, front, Capsule, capsuleAt, Parts, parts}
-use Rattle.capsule.specs.Kinds.{forwards}
-use Rattle.capsule.specs.Book.{onlyIf, fromCapsules, fromTail, fromParts, forwarded}
+use Rattle.capsule.specs.Grammar.{Extent, Stage, inType, inLength, inValue, Front, part, whole, frontBy, Capsule, capsuleAt, Parts, partsBy}
+use Rattle.capsule.specs.Kinds.{extentOf, forwards}
+use Rattle.capsule.specs.Book.{partsFor, onlyIf, fromCapsules, fromTail, fromParts, forwarded}
 use Rattle.capsule.specs.State.{phaseAt}
 use Rattle.capsule.specs.Reader.{planHead, heldOf, wrote}
 use Rattle.capsule_laws.specs.Claims.{ForwardedGrows}
-use Rattle.capsule_laws.proofs.Grammar.{Sees, seesType, seesLength, seesValue, seesWhole, sees, complete, next, parts-is, parts-cut, parts-append, parts-part, part-none, tail-sees, tail-bytes}
-use Rattle.capsule_laws.proofs.Appending.{one, parts-goes, parts-ends}
+use Rattle.capsule_laws.proofs.Grammar.{Sees, seesType, seesLength, seesValue, seesWhole, sees, complete, part-none}
+use Rattle.capsule_laws.proofs.Appending.{one, Shows, shows, for-append, for-part, for-next, tail-shows, for-bytes, parts-goes, parts-ends}
 use Rattle.capsule_laws.proofs.Plans.{planAt}
 
 -- ---- lists
@@ -35,9 +35,9 @@ unfolding fromCapsules
 fromCapsules-append op [] ds = refl
 fromCapsules-append op (c ∷ cs) ds = rw (fromCapsules-append op cs ds, append-assoc)
 
-fromCapsules-one : (op : Opening) (t j : ℕ) (l : List ℕ) → fromCapsules op (one t j l ∷ []) ≡ onlyIf (forwards op t) l
+fromCapsules-one : (op : Opening) (t n j : ℕ) (l : List ℕ) → fromCapsules op (one t n j l ∷ []) ≡ onlyIf (forwards op t) l
 unfolding fromCapsules
-fromCapsules-one op t j l = append-nil (onlyIf (forwards op t) l)
+fromCapsules-one op t n j l = append-nil (onlyIf (forwards op t) l)
 
 -- ---- a type that is complete stays
 
@@ -47,7 +47,7 @@ pub data Typed (t : ℕ) : Stage → Type 0 where
   before : {j : ℕ} → Typed t (inLength t j)
   within : {n j : ℕ} → Typed t (inValue t n j)
 
-pub typed : (r p : List ℕ) (x : Stage) (t j : ℕ) → Sees r (part x) → readVarint (r ++ p) ≡ Whole t j → Typed t x
+pub typed : {ext : Extent} (r p : List ℕ) (x : Stage) (t j : ℕ) → Sees ext r (part x) → readVarint (r ++ p) ≡ Whole t j → Typed t x
 typed r p x t j (seesType e) d = none
 typed r p x t j (seesLength {t = u} {j = i} e f) d =
     let a = reads r u i e .stays p in
@@ -59,11 +59,11 @@ typed r p x t j (seesValue {t = u} {j = i} {n = n} {k = k} e f h) d =
     subst (λ (y : ℕ). Typed t (inValue y n (i + k))) (sym b) within
 
 -- the type that a front shows
-pub typed-front : (r p : List ℕ) (x : Stage) (t n j : ℕ) → Sees r (part x) → Sees (r ++ p) (whole t n j) → Typed t x
+pub typed-front : {ext : Extent} (r p : List ℕ) (x : Stage) (t n j : ℕ) → Sees ext r (part x) → Sees ext (r ++ p) (whole t n j) → Typed t x
 typed-front r p x t n j v (seesWhole {j = i} e d h) = typed r p x t i v e
 
 -- while no type is complete nothing is forwarded of the tail
-nothing-yet : (op : Opening) (r p : List ℕ) (x : Stage) → Sees r (part x) → readVarint (r ++ p) ≡ Incomplete → fromTail op r x ≡ []
+nothing-yet : (op : Opening) (r p : List ℕ) (x : Stage) → Shows op r (part x) → readVarint (r ++ p) ≡ Incomplete → fromTail op r x ≡ []
 unfolding fromTail
 nothing-yet op r p x (seesType e) d = refl
 nothing-yet op r p x (seesLength {t = t} {j = j} e f) d = whole-incomplete (reads r t j e .stays p) d
@@ -72,7 +72,7 @@ nothing-yet op r p x (seesValue {t = t} {j = j} e f h) d = whole-incomplete (rea
 module _ (op : Opening) (r q : List ℕ) (t : ℕ) where
   -- bytes that go on behind the tail r: what of them and of the held ones is written
   pub wrote-tail : (x : Stage) → Typed t x → Bytes r
-      → onlyIf (forwards op t) (r ++ q) ≡ fromTail op r x ++ onlyIf (forwards op t) (heldBytes (heldOf (phaseAt r x)) ++ q)
+      → onlyIf (forwards op t) (r ++ q) ≡ fromTail op r x ++ onlyIf (forwards op t) (heldBytes (heldOf (phaseAt op r x)) ++ q)
   unfolding fromTail heldOf phaseAt
   wrote-tail x none w = ap (λ (h : List ℕ). onlyIf (forwards op t) (h ++ q)) (sym (held-partial r w))
   wrote-tail x before w = unfold heldBytes bytesOf in onlyIf-append (forwards op t) r q
@@ -82,12 +82,12 @@ module _ (op : Opening) (r q : List ℕ) (t : ℕ) where
 
 module _ (op : Opening) (s : List ℕ) where
   abbrev r : List ℕ
-  r = parts s .tail
+  r = partsFor op s .tail
 
   abbrev x : Stage
-  x = parts s .stage
+  x = partsFor op s .stage
 
-  forwarded-is : (q : List ℕ) (ps : Parts) → parts (s ++ q) ≡ ps → forwarded op (s ++ q) ≡ fromCapsules op (ps .capsules) ++ fromTail op (ps .tail) (ps .stage)
+  forwarded-is : (q : List ℕ) (ps : Parts) → partsFor op (s ++ q) ≡ ps → forwarded op (s ++ q) ≡ fromCapsules op (ps .capsules) ++ fromTail op (ps .tail) (ps .stage)
   unfolding forwarded fromParts
   forwarded-is q ps e = rw e
 
@@ -95,44 +95,44 @@ module _ (op : Opening) (s : List ℕ) where
     all : take (length q) q ≡ q
     all = take-length q
 
-    goes-typed : (y : Stage) (t : ℕ) → parts (s ++ q) ≡ record { capsules = parts s .capsules; tail = r ++ q; stage = y }
+    goes-typed : (y : Stage) (t : ℕ) → partsFor op (s ++ q) ≡ record { capsules = partsFor op s .capsules; tail = r ++ q; stage = y }
         → fromTail op (r ++ q) y ≡ onlyIf (forwards op t) (r ++ q) → Typed t x
-        → forwarded op (s ++ q) ≡ forwarded op s ++ wrote (forwards op t) (heldOf (phaseAt r x)) (length q) q
+        → forwarded op (s ++ q) ≡ forwarded op s ++ wrote (forwards op t) (heldOf (phaseAt op r x)) (length q) q
     unfolding forwarded fromParts wrote
     goes-typed y t e f d =
-        forwarded-is q (record { capsules = parts s .capsules; tail = r ++ q; stage = y }) e
-        ∙ ap (λ (l : List ℕ). fromCapsules op (parts s .capsules) ++ l) (f ∙ wrote-tail op r q t x d (tail-bytes s w))
-        ∙ sym (append-assoc (fromCapsules op (parts s .capsules)) (fromTail op r x) _)
-        ∙ ap (λ (l : List ℕ). (fromCapsules op (parts s .capsules) ++ fromTail op r x) ++ onlyIf (forwards op t) (heldBytes (heldOf (phaseAt r x)) ++ l)) (sym all)
+        forwarded-is q (record { capsules = partsFor op s .capsules; tail = r ++ q; stage = y }) e
+        ∙ ap (λ (l : List ℕ). fromCapsules op (partsFor op s .capsules) ++ l) (f ∙ wrote-tail op r q t x d (for-bytes op s w))
+        ∙ sym (append-assoc (fromCapsules op (partsFor op s .capsules)) (fromTail op r x) _)
+        ∙ ap (λ (l : List ℕ). (fromCapsules op (partsFor op s .capsules) ++ fromTail op r x) ++ onlyIf (forwards op t) (heldBytes (heldOf (phaseAt op r x)) ++ l)) (sym all)
 
-    goes-untyped : readVarint (r ++ q) ≡ Incomplete → forwarded op (s ++ q) ≡ forwarded op s ++ wrote false (heldOf (phaseAt r x)) (length q) q
+    goes-untyped : readVarint (r ++ q) ≡ Incomplete → forwarded op (s ++ q) ≡ forwarded op s ++ wrote false (heldOf (phaseAt op r x)) (length q) q
     unfolding forwarded fromParts wrote onlyIf fromTail
     goes-untyped e =
-        let n : fromTail op r x ≡ [] = nothing-yet op r q x (tail-sees s) e in
-        forwarded-is q (record { capsules = parts s .capsules; tail = r ++ q; stage = inType }) (parts-goes s q inType (seesType e))
-        ∙ sym (append-nil (fromCapsules op (parts s .capsules) ++ []))
-        ∙ ap (λ (l : List ℕ). (fromCapsules op (parts s .capsules) ++ l) ++ []) (sym n)
+        let n : fromTail op r x ≡ [] = nothing-yet op r q x (tail-shows op s) e in
+        forwarded-is q (record { capsules = partsFor op s .capsules; tail = r ++ q; stage = inType }) (parts-goes op s q inType (seesType e))
+        ∙ sym (append-nil (fromCapsules op (partsFor op s .capsules) ++ []))
+        ∙ ap (λ (l : List ℕ). (fromCapsules op (partsFor op s .capsules) ++ l) ++ []) (sym n)
 
     -- no capsule ends
-    pub forwarded-goes : (y : Stage) → Sees (r ++ q) (part y)
-        → forwarded op (s ++ q) ≡ forwarded op s ++ wrote (planAt op r q (part y) .forward) (heldOf (phaseAt r x)) (length q) q
+    pub forwarded-goes : (y : Stage) → Shows op (r ++ q) (part y)
+        → forwarded op (s ++ q) ≡ forwarded op s ++ wrote (planAt op r q (part y) .forward) (heldOf (phaseAt op r x)) (length q) q
     unfolding planAt planHead
     forwarded-goes y (seesType e) = goes-untyped e
-    forwarded-goes y (seesLength {t = t} {j = j} e d) = goes-typed y t (parts-goes s q y (seesLength e d)) (unfold fromTail in refl) (typed r q x t j (tail-sees s) e)
-    forwarded-goes y (seesValue {t = t} {j = j} e d h) = goes-typed y t (parts-goes s q y (seesValue e d h)) (unfold fromTail in refl) (typed r q x t j (tail-sees s) e)
+    forwarded-goes y (seesLength {t = t} {j = j} e d) = goes-typed y t (parts-goes op s q y (seesLength e d)) (unfold fromTail in refl) (typed r q x t j (tail-shows op s) e)
+    forwarded-goes y (seesValue {t = t} {j = j} e d h) = goes-typed y t (parts-goes op s q y (seesValue e d h)) (unfold fromTail in refl) (typed r q x t j (tail-shows op s) e)
 
     -- its last byte ends a capsule
-    pub forwarded-ends : (t n j : ℕ) → Sees (r ++ q) (whole t n j) → j + n ≡ length (r ++ q)
-        → forwarded op (s ++ q) ≡ forwarded op s ++ wrote (forwards op t) (heldOf (phaseAt r x)) (length q) q
+    pub forwarded-ends : (t n j : ℕ) → Shows op (r ++ q) (whole t n j) → j + extentOf op t n ≡ length (r ++ q)
+        → forwarded op (s ++ q) ≡ forwarded op s ++ wrote (forwards op t) (heldOf (phaseAt op r x)) (length q) q
     unfolding forwarded fromParts wrote fromTail
     forwarded-ends t n j v e =
-        let cs = fromCapsules op (parts s .capsules) in
-        forwarded-is q (record { capsules = parts s .capsules ++ (one t j (r ++ q) ∷ []); tail = []; stage = inType }) (parts-ends s q t n j v e)
-        ∙ append-nil (fromCapsules op (parts s .capsules ++ (one t j (r ++ q) ∷ [])))
-        ∙ fromCapsules-append op (parts s .capsules) (one t j (r ++ q) ∷ [])
-        ∙ ap (λ (l : List ℕ). cs ++ l) (fromCapsules-one op t j (r ++ q) ∙ wrote-tail op r q t x (typed-front r q x t n j (tail-sees s) v) (tail-bytes s w))
-        ∙ sym (append-assoc cs (fromTail op r x) (onlyIf (forwards op t) (heldBytes (heldOf (phaseAt r x)) ++ q)))
-        ∙ ap (λ (l : List ℕ). (cs ++ fromTail op r x) ++ onlyIf (forwards op t) (heldBytes (heldOf (phaseAt r x)) ++ l)) (sym all)
+        let cs = fromCapsules op (partsFor op s .capsules) in
+        forwarded-is q (record { capsules = partsFor op s .capsules ++ (one t n j (r ++ q) ∷ []); tail = []; stage = inType }) (parts-ends op s q t n j v e)
+        ∙ append-nil (fromCapsules op (partsFor op s .capsules ++ (one t n j (r ++ q) ∷ [])))
+        ∙ fromCapsules-append op (partsFor op s .capsules) (one t n j (r ++ q) ∷ [])
+        ∙ ap (λ (l : List ℕ). cs ++ l) (fromCapsules-one op t n j (r ++ q) ∙ wrote-tail op r q t x (typed-front r q x t n j (tail-shows op s) v) (for-bytes op s w))
+        ∙ sym (append-assoc cs (fromTail op r x) (onlyIf (forwards op t) (heldBytes (heldOf (phaseAt op r x)) ++ q)))
+        ∙ ap (λ (l : List ℕ). (cs ++ fromTail op r x) ++ onlyIf (forwards op t) (heldBytes (heldOf (phaseAt op r x)) ++ l)) (sym all)
 
 -- ---- forwarded bytes are never taken back
 
@@ -141,21 +141,20 @@ module _ (op : Opening) (r y : List ℕ) (t : ℕ) (f : forwards op t ≡ true) 
   Grown : Type 0
   Grown = (w : List ℕ) × (forwarded op (r ++ y) ≡ r ++ w)
 
-  tail-grown : (z : Stage) → Sees (r ++ y) (part z) → fromTail op (r ++ y) z ≡ r ++ y → Grown
+  tail-grown : (z : Stage) → Shows op (r ++ y) (part z) → fromTail op (r ++ y) z ≡ r ++ y → Grown
   unfolding Grown forwarded fromParts fromCapsules
-  tail-grown z v e = (y, rw (parts-part (r ++ y) z v) e)
+  tail-grown z v e = (y, rw (for-part op (r ++ y) z v) e)
 
-  capsule-typed : (n j : ℕ) → Sees (r ++ y) (whole t n j) → length r < j + n → Grown
+  capsule-typed : (n j : ℕ) → Shows op (r ++ y) (whole t n j) → length r < j + extentOf op t n → Grown
   unfolding Grown forwarded fromParts fromCapsules capsuleAt onlyIf
   capsule-typed n j v h =
-      let c = parts-cut (drop (j + n) (r ++ y)) in
-      let m : j + n ≡ length r + (j + n - length r) = omega arith in
-      let b : take (j + n) (r ++ y) ≡ r ++ take (j + n - length r) y = ap (λ (k : ℕ). take k (r ++ y)) m ∙ take-append-add r y (j + n - length r) in
-      let rest = fromCapsules op (parts (drop (j + n) (r ++ y)) .capsules) ++ fromTail op (parts (drop (j + n) (r ++ y)) .tail) (parts (drop (j + n) (r ++ y)) .stage) in
-      (take (j + n - length r) y ++ rest, rw (parts-is (next v c), f, onlyIf, b, append-assoc, append-assoc))
+      let m : j + extentOf op t n ≡ length r + (j + extentOf op t n - length r) = omega arith in
+      let b : take (j + extentOf op t n) (r ++ y) ≡ r ++ take (j + extentOf op t n - length r) y = ap (λ (k : ℕ). take k (r ++ y)) m ∙ take-append-add r y (j + extentOf op t n - length r) in
+      let rest = fromCapsules op (partsFor op (drop (j + extentOf op t n) (r ++ y)) .capsules) ++ fromTail op (partsFor op (drop (j + extentOf op t n) (r ++ y)) .tail) (partsFor op (drop (j + extentOf op t n) (r ++ y)) .stage) in
+      (take (j + extentOf op t n - length r) y ++ rest, rw (for-next op (r ++ y) t n j v, f, onlyIf, b, append-assoc, append-assoc))
 
   -- whatever stands at the front is of the same type
-  shown : (j : ℕ) (x : Stage) → Sees r (part x) → readVarint (r ++ y) ≡ Whole t j → (z : Front) → Sees (r ++ y) z → Grown
+  shown : (j : ℕ) (x : Stage) → Shows op r (part x) → readVarint (r ++ y) ≡ Whole t j → (z : Front) → Shows op (r ++ y) z → Grown
   unfolding fromTail onlyIf
   shown j x v e z (seesType d) = whole-incomplete e d
   shown j x v e z (seesLength {t = u} {j = i} d g) =
@@ -166,33 +165,33 @@ module _ (op : Opening) (r y : List ℕ) (t : ℕ) (f : forwards op t ≡ true) 
       tail-grown (inValue u n (i + k)) (seesValue d g h) (rw (a, f, onlyIf))
   shown j x v e z (seesWhole {t = u} {j = i} {n = n} {k = k} d g h) =
       let a : u ≡ t = cc in
-      let w : Sees (r ++ y) (whole t n (i + k)) = subst (λ (b : ℕ). Sees (r ++ y) (whole b n (i + k))) a (seesWhole d g h) in
+      let w : Shows op (r ++ y) (whole t n (i + k)) = subst (λ (b : ℕ). Shows op (r ++ y) (whole b n (i + k))) a (seesWhole d g h) in
       capsule-typed n (i + k) w (part-none r x y t n (i + k) v w)
 
-typed-grows : (op : Opening) (r y : List ℕ) (t j : ℕ) (x : Stage) → Sees r (part x) → readVarint (r ++ y) ≡ Whole t j
+typed-grows : (op : Opening) (r y : List ℕ) (t j : ℕ) (x : Stage) → Shows op r (part x) → readVarint (r ++ y) ≡ Whole t j
     → (w : List ℕ) × (forwarded op (r ++ y) ≡ onlyIf (forwards op t) r ++ w)
 unfolding onlyIf Grown
 typed-grows op r y t j x v e = go (forwards op t) refl
   where
     go : (b : Bool) → forwards op t ≡ b → (w : List ℕ) × (forwarded op (r ++ y) ≡ onlyIf (forwards op t) r ++ w)
     go false f = (forwarded op (r ++ y), rw (f, onlyIf))
-    go true f = let g : Grown op r y t f = shown op r y t f j x v e (front (r ++ y)) (sees (r ++ y)) in (g .0, rw (f, onlyIf) (g .1))
+    go true f = let g : Grown op r y t f = shown op r y t f j x v e (frontBy (extentOf op) (r ++ y)) (shows op (r ++ y)) in (g .0, rw (f, onlyIf) (g .1))
 
 -- what stands of the tail r among the forwarded bytes stays there
-tail-grows : (op : Opening) (r y : List ℕ) (x : Stage) → Sees r (part x) → (w : List ℕ) × (forwarded op (r ++ y) ≡ fromTail op r x ++ w)
+tail-grows : (op : Opening) (r y : List ℕ) (x : Stage) → Shows op r (part x) → (w : List ℕ) × (forwarded op (r ++ y) ≡ fromTail op r x ++ w)
 unfolding fromTail
 tail-grows op r y x (seesType e) = (forwarded op (r ++ y), refl)
 tail-grows op r y x (seesLength {t = t} {j = j} e d) = typed-grows op r y t j x (seesLength e d) (reads r t j e .stays y)
 tail-grows op r y x (seesValue {t = t} {j = j} e d h) = typed-grows op r y t j x (seesValue e d h) (reads r t j e .stays y)
 
-forwarded-split : (op : Opening) (s y : List ℕ) → forwarded op (s ++ y) ≡ fromCapsules op (parts s .capsules) ++ forwarded op (parts s .tail ++ y)
+forwarded-split : (op : Opening) (s y : List ℕ) → forwarded op (s ++ y) ≡ fromCapsules op (partsFor op s .capsules) ++ forwarded op (partsFor op s .tail ++ y)
 unfolding forwarded fromParts
 forwarded-split op s y =
-    let q = parts (parts s .tail ++ y) in
-    rw (parts-append s y, fromCapsules-append op (parts s .capsules) (q .capsules), append-assoc)
+    let q = partsFor op (partsFor op s .tail ++ y) in
+    rw (for-append op s y, fromCapsules-append op (partsFor op s .capsules) (q .capsules), append-assoc)
 
 pub forwarded-grows : ForwardedGrows
 unfolding forwarded fromParts
 forwarded-grows op s y =
-    let g = tail-grows op (parts s .tail) y (parts s .stage) (tail-sees s) in
-    (g .0, forwarded-split op s y ∙ ap (λ (l : List ℕ). fromCapsules op (parts s .capsules) ++ l) (g .1) ∙ sym (append-assoc (fromCapsules op (parts s .capsules)) (fromTail op (parts s .tail) (parts s .stage)) (g .0)))
+    let g = tail-grows op (partsFor op s .tail) y (partsFor op s .stage) (tail-shows op s) in
+    (g .0, forwarded-split op s y ∙ ap (λ (l : List ℕ). fromCapsules op (partsFor op s .capsules) ++ l) (g .1) ∙ sym (append-assoc (fromCapsules op (partsFor op s .capsules)) (fromTail op (partsFor op s .tail) (partsFor op s .stage)) (g .0)))

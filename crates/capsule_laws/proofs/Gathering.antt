@@ -1,8 +1,8 @@
--- The gathering buffer holds the value bytes that came. Assumes nothing.
+-- Each of the two buffers for values holds the value bytes that came. Assumes nothing.
 use mathlib.Core.Path.{_≡_, refl, sym, ap, _∙_, subst}
 use Prim.Native.Nat.{ℕ, _+_, _-_, _≤_}
 use native.Mathlib.Omega.{arith}
-use mathlib.Core.Bool.{Bool, true, false}
+use mathlib.Core.Bool.{Bool, true, false, cond}
 use mathlib.Core.List.{List, [], _++_, append-nil}
 use lib.ListN.{length, take, drop, length-append, length-drop}
 use lib.Seq.{take-length, drop-nil, take-at, drop-append-le, length-take-le, sets, sets-eq}
@@ -14,16 +14,19 @@ use Rattle.capsule.specs.declared.opening.Opening.{Opening}
 use Rattle.capsule.specs.declared.opening.Role.{Role}
 use Rattle.capsule.specs.declared.opening.Role.the-variants.{Endpoint, Intermediary}
 use Rattle.capsule.specs.declared.opening.Kind.{Kind}
-use Rattle.capsule.specs.declared.opening.Kind.the-variants.{Datagram, Unknown}
+use Rattle.capsule.specs.declared.opening.Kind.the-variants.{Datagram, Address, Unknown}
+use Rattle.capsule.specs.declared.opening.Report.{Report}
+use Rattle.capsule.specs.declared.opening.Report.the-variants.{Delivered, Dropped, Skipped, Passed, AddressDelivered, Malformed}
 use Rattle.capsule.specs.declared.plan.Plan.{Plan}
-use Rattle.capsule.specs.Grammar.{Stage, part, whole}
-use Rattle.capsule.specs.Kinds.{kindOf, reportBy, reportOf, gathersBy, gathers}
-use Rattle.capsule.specs.Book.{onlyDelivered}
+use Rattle.capsule.specs.Grammar.{Extent, Stage, inValue, part, whole}
+use Rattle.addresses.specs.Addresses.{longestAddressValue, wellFormed}
+use Rattle.capsule.specs.Kinds.{kindOf, opted, extentOf, reportBy, reportOf, judged, onlyDelivered, gathersBy, gathers, keepsBy, keeps}
 use Rattle.capsule.specs.Reader.{stored, lengthOf}
 use Rattle.capsule_laws.specs.Claims.{StandsAt}
 use Rattle.capsule_laws.proofs.Grammar.{Sees, seesType, seesLength, seesValue, seesWhole, head-stays, head-fits, drop-take}
+use Rattle.capsule.proofs.Planning.{gathers-limit, keeps-limit, keeps-opted}
+use Rattle.capsule_laws.proofs.Appending.{Shows}
 use Rattle.capsule_laws.proofs.Plans.{planAt, longer, drop-past}
-use Rattle.capsule.proofs.Planning.{gathers-limit}
 
 -- ---- lists
 
@@ -66,77 +69,155 @@ empty-front g r j h =
     let z : length r - j ≡ 0 = omega arith in
     ap (λ (k : ℕ). take k g) z ∙ sym (drop-all r j h)
 
-pub stood : (op : Opening) (r p g : List ℕ) (x : Stage) (t i n k : ℕ) → Sees r (part x) → StandsAt op r x g
-    → readVarint (r ++ p) ≡ Whole t i → readVarint (drop i (r ++ p)) ≡ Whole n k → gathers op t n ≡ true → take (length r - (i + k)) g ≡ drop (i + k) r
-stood op r p g x t i n k (seesType e) s a b h = empty-front g r (i + k) (omega (arith, longer r p t i e a))
-stood op r p g x t i n k (seesLength {t = u} {j = j} e d) s a b h =
-    let f = reads r u j e in
-    let y : j ≡ i = cc (f .stays p) in
-    let c : readVarint (drop j r ++ p) ≡ Whole n k = rw (← (drop-append-le j r p (f .fits)), y) b in
-    empty-front g r (i + k) (omega (arith, longer (drop j r) p n k d c, length-drop j r, f .fits))
-stood op r p g x t i n k (seesValue {t = u} {j = j} {n = m} {k = l} e d h) s a b v =
-    let f = head-stays r e d p in
-    let y : j ≡ i = cc (f .0) in
-    let z : u ≡ t = cc (f .0) in
-    let f′ : readVarint (drop i (r ++ p)) ≡ Whole m l = subst (λ (y : ℕ). readVarint (drop y (r ++ p)) ≡ Whole m l) y (f .1) in
-    let b′ : m ≡ n = cc in
-    let c : l ≡ k = cc in
-    rw (← y, ← c) (s (rw (z, b′) v))
+-- ---- one buffer, into which the values of the capsules go for which `stores` holds
 
--- ---- what stands there after it
+module _ (ext : Extent) (stores : ℕ → ℕ → Bool) (r p g : List ℕ) where
+  stood : (x : Stage) (t i n k : ℕ) → Sees ext r (part x) → StandsAt stores r x g
+      → readVarint (r ++ p) ≡ Whole t i → readVarint (drop i (r ++ p)) ≡ Whole n k → stores t n ≡ true → take (length r - (i + k)) g ≡ drop (i + k) r
+  stood x t i n k (seesType e) s a b h = empty-front g r (i + k) (omega (arith, longer r p t i e a))
+  stood x t i n k (seesLength {t = u} {j = j} e d) s a b h =
+      let f = reads r u j e in
+      let y : j ≡ i = cc (f .stays p) in
+      let c : readVarint (drop j r ++ p) ≡ Whole n k = rw (← (drop-append-le j r p (f .fits)), y) b in
+      empty-front g r (i + k) (omega (arith, longer (drop j r) p n k d c, length-drop j r, f .fits))
+  stood x t i n k (seesValue {t = u} {j = j} {n = m} {k = l} e d h) s a b v =
+      let f = head-stays r e d p in
+      let y : j ≡ i = cc (f .0) in
+      let z : u ≡ t = cc (f .0) in
+      let f′ : readVarint (drop i (r ++ p)) ≡ Whole m l = subst (λ (y : ℕ). readVarint (drop y (r ++ p)) ≡ Whole m l) y (f .1) in
+      let b′ : m ≡ n = cc in
+      let c : l ≡ k = cc in
+      rw (← y, ← c) (s (rw (z, b′) v))
 
-module _ (op : Opening) (r p g : List ℕ) (x : Stage) (v : Sees r (part x)) (s : StandsAt op r x g) (m : op .limit ≤ length g) where
-  -- the value that begins at i + k, of which the piece's first c bytes came
-  came : (t i n k c : ℕ) → readVarint (r ++ p) ≡ Whole t i → readVarint (drop i (r ++ p)) ≡ Whole n k → gathers op t n ≡ true
-      → c ≤ length p → i + k ≤ length r + c → length r + c - (i + k) ≤ n
-      → take (length r + c - (i + k)) (stored (gathers op t n) (i + k - length r) c (length r - (i + k)) p g) ≡ drop (i + k) (r ++ take c p)
-  came t i n k c a b h l f u =
-      let lim = gathers-limit op t n h in
-      let q : length (take c p) ≡ c = length-take-le c p l in
-      let e : length (r ++ take c p) ≡ length r + c = omega (arith, length-append r (take c p)) in
-      ap (λ (z : Bool). take (length r + c - (i + k)) (stored z (i + k - length r) c (length r - (i + k)) p g)) h
-      ∙ ap (take (length r + c - (i + k))) (stored-is p g (i + k - length r) c (length r - (i + k)) (omega arith))
-      ∙ ap (λ (y : ℕ). take (y - (i + k)) (sets g (length r - (i + k)) (drop (i + k - length r) (take c p)))) (sym e)
-      ∙ stands-on g r (take c p) (i + k) (omega arith) (omega arith) (stood op r p g x t i n k v s a b h)
+  module _ (x : Stage) (v : Sees ext r (part x)) (s : StandsAt stores r x g) (big : (t n : ℕ) → stores t n ≡ true → ext t n ≤ length g) where
+    -- the value that begins at i + k, of which the piece's first c bytes came
+    came : (t i n k c : ℕ) → readVarint (r ++ p) ≡ Whole t i → readVarint (drop i (r ++ p)) ≡ Whole n k → stores t n ≡ true
+        → c ≤ length p → i + k ≤ length r + c → length r + c - (i + k) ≤ ext t n
+        → take (length r + c - (i + k)) (stored (stores t n) (i + k - length r) c (length r - (i + k)) p g) ≡ drop (i + k) (r ++ take c p)
+    came t i n k c a b h l f u =
+        let lim = big t n h in
+        let q : length (take c p) ≡ c = length-take-le c p l in
+        let e : length (r ++ take c p) ≡ length r + c = omega (arith, length-append r (take c p)) in
+        ap (λ (z : Bool). take (length r + c - (i + k)) (stored z (i + k - length r) c (length r - (i + k)) p g)) h
+        ∙ ap (take (length r + c - (i + k))) (stored-is p g (i + k - length r) c (length r - (i + k)) (omega arith))
+        ∙ ap (λ (y : ℕ). take (y - (i + k)) (sets g (length r - (i + k)) (drop (i + k - length r) (take c p)))) (sym e)
+        ∙ stands-on g r (take c p) (i + k) (omega arith) (omega arith) (stood x t i n k v s a b h)
 
-  abbrev pub after : Plan → List ℕ
-  after plan = stored (plan .store) (plan .at) (plan .consumed) (plan .place) p g
+    pub goes-stored : (t n j : ℕ) → Sees ext (r ++ p) (part (inValue t n j)) → stores t n ≡ true
+        → take (length (r ++ p) - j) (stored (stores t n) (j - length r) (length p) (length r - j) p g) ≡ drop j (r ++ p)
+    goes-stored t n j (seesValue {j = i} {k = k} e d h) gs =
+        let len : length (r ++ p) ≡ length r + length p = length-append r p in
+        let f = head-fits (r ++ p) e d in
+        let b = stored (stores t n) (i + k - length r) (length p) (length r - (i + k)) p g in
+        let a : take (length r + length p - (i + k)) b ≡ drop (i + k) (r ++ take (length p) p) =
+        came t i n k (length p) e d gs (omega arith) (omega arith) (omega arith) in
+        ap (λ (z : ℕ). take (z - (i + k)) b) len ∙ a ∙ ap (λ (q : List ℕ). drop (i + k) (r ++ q)) (take-length p)
 
-  pub goes-on-standing : (y : Stage) → Sees (r ++ p) (part y) → StandsAt op (r ++ p) y (after (planAt op r p (part y)))
-  unfolding planAt
-  goes-on-standing y (seesType e) = tt
-  goes-on-standing y (seesLength e d) = tt
-  goes-on-standing y (seesValue {t = t} {j = i} {n = n} {k = k} e d h) = λ gs.
-      let len : length (r ++ p) ≡ length r + length p = length-append r p in
-      let f = head-fits (r ++ p) e d in
-      let a : take (length r + length p - (i + k)) (after (planAt op r p (part y))) ≡ drop (i + k) (r ++ take (length p) p) =
-      came t i n k (length p) e d gs (omega arith) (omega arith) (omega arith) in
-      ap (λ (z : ℕ). take (z - (i + k)) (after (planAt op r p (part y)))) len ∙ a ∙ ap (λ (q : List ℕ). drop (i + k) (r ++ q)) (take-length p)
+    pub ends-stored : (t n j : ℕ) → Sees ext (r ++ p) (whole t n j) → length r ≤ j + ext t n → stores t n ≡ true
+        → take (ext t n) (stored (stores t n) (j - length r) (j + ext t n - length r) (length r - j) p g) ≡ drop j (r ++ take (j + ext t n - length r) p)
+    ends-stored t n j (seesWhole {j = i} {k = k} e d h) l gs =
+        let len : length (r ++ p) ≡ length r + length p = length-append r p in
+        let m = ext t n in
+        let f : length r + (i + k + m - length r) - (i + k) ≡ m = omega arith in
+        ap (λ (z : ℕ). take z (stored (stores t n) (i + k - length r) (i + k + m - length r) (length r - (i + k)) p g)) (sym f)
+        ∙ came t i n k (i + k + m - length r) e d gs (omega arith) (omega arith) (omega arith)
 
-  pub ends-standing : (t n j : ℕ) → Sees (r ++ p) (whole t n j) → length r ≤ j + n → gathers op t n ≡ true
-      → take n (after (planAt op r p (whole t n j))) ≡ drop j (r ++ take (j + n - length r) p)
-  unfolding planAt
-  ends-standing t n j (seesWhole {j = i} {k = k} e d h) l gs =
-      let len : length (r ++ p) ≡ length r + length p = length-append r p in
-      let f : length r + (i + k + n - length r) - (i + k) ≡ n = omega arith in
-      ap (λ (z : ℕ). take z (after (planAt op r p (whole t n j)))) (sym f)
-      ∙ came t i n k (i + k + n - length r) e d gs (omega arith) (omega arith) (omega arith)
+-- ---- the same of a plan: of the gathering buffer and of the second one
 
--- ---- the payload
+abbrev pub after : Bool → Plan → List ℕ → List ℕ → List ℕ
+after flag plan p g = stored flag (plan .at) (plan .consumed) (plan .place) p g
 
--- two lists that agree where a report is delivered are one delivered payload
-pub same-payload : (op : Opening) (t n : ℕ) (a b : List ℕ) → (gathers op t n ≡ true → take n a ≡ b)
-    → onlyDelivered (reportOf op t n) (take (lengthOf (reportOf op t n)) a) ≡ onlyDelivered (reportOf op t n) b
-unfolding gathers reportOf
-same-payload op t n a b h = go (kindOf op t) (op .role) h
+module _ (op : Opening) (r p g : List ℕ) (x : Stage) (v : Shows op r (part x)) where
+  module _ (s : StandsAt (gathers op) r x g) (big : op .limit ≤ length g) where
+    room : (t n : ℕ) → gathers op t n ≡ true → extentOf op t n ≤ length g
+    room t n e = omega (arith, gathers-limit op t n e)
+
+    pub goes-gathered : (y : Stage) → Shows op (r ++ p) (part y) → StandsAt (gathers op) (r ++ p) y (after (planAt op r p (part y) .store) (planAt op r p (part y)) p g)
+    unfolding planAt
+    goes-gathered y (seesType e) = tt
+    goes-gathered y (seesLength e d) = tt
+    goes-gathered y (seesValue {t = t} {j = i} {n = n} {k = k} e d h) = λ gs. goes-stored (extentOf op) (gathers op) r p g x v s room t n (i + k) (seesValue e d h) gs
+
+    pub ends-gathered : (t n j : ℕ) → Shows op (r ++ p) (whole t n j) → length r ≤ j + extentOf op t n → gathers op t n ≡ true
+        → take n (after (planAt op r p (whole t n j) .store) (planAt op r p (whole t n j)) p g) ≡ drop j (r ++ take (j + extentOf op t n - length r) p)
+    unfolding planAt
+    ends-gathered t n j w l gs =
+        ap (λ (m : ℕ). take m (after (planAt op r p (whole t n j) .store) (planAt op r p (whole t n j)) p g)) (sym (gathers-limit op t n gs .0))
+        ∙ ends-stored (extentOf op) (gathers op) r p g x v s room t n j w l gs
+
+  module _ (s : StandsAt (keeps op) r x g) (big : opted op ≡ true → longestAddressValue ≤ length g) where
+    place : (t n : ℕ) → keeps op t n ≡ true → extentOf op t n ≤ length g
+    place t n e = omega (arith, keeps-limit op t n e, big (keeps-opted op t n e))
+
+    pub goes-kept : (y : Stage) → Shows op (r ++ p) (part y) → StandsAt (keeps op) (r ++ p) y (after (planAt op r p (part y) .keep) (planAt op r p (part y)) p g)
+    unfolding planAt
+    goes-kept y (seesType e) = tt
+    goes-kept y (seesLength e d) = tt
+    goes-kept y (seesValue {t = t} {j = i} {n = n} {k = k} e d h) = λ gs. goes-stored (extentOf op) (keeps op) r p g x v s place t n (i + k) (seesValue e d h) gs
+
+    pub ends-kept : (t n j : ℕ) → Shows op (r ++ p) (whole t n j) → length r ≤ j + extentOf op t n → keeps op t n ≡ true
+        → take n (after (planAt op r p (whole t n j) .keep) (planAt op r p (whole t n j)) p g) ≡ drop j (r ++ take (j + extentOf op t n - length r) p)
+    unfolding planAt
+    ends-kept t n j w l gs =
+        ap (λ (m : ℕ). take m (after (planAt op r p (whole t n j) .keep) (planAt op r p (whole t n j)) p g)) (sym (keeps-limit op t n gs .0))
+        ∙ ends-stored (extentOf op) (keeps op) r p g x v s place t n j w l gs
+
+-- ---- the report and the payload
+
+-- what a report by type and length says of the buffers
+data Says (op : Opening) (t n : ℕ) : Report → Type 0 where
+  saysDelivered : gathers op t n ≡ true → Says op t n (Delivered n)
+  saysDropped : Says op t n (Dropped n)
+  saysSkipped : Says op t n (Skipped t n)
+  saysPassed : Says op t n (Passed t n)
+  saysAddress : keeps op t n ≡ true → Says op t n (AddressDelivered t n)
+  saysMalformed : Says op t n (Malformed t n)
+
+says : (op : Opening) (t n : ℕ) → Says op t n (reportOf op t n)
+unfolding reportOf
+says op t n = go (kindOf op t) refl (op .role)
   where
-    go : (k : Kind) (r : Role) → (gathersBy k (op .limit) n ≡ true → take n a ≡ b)
-        → onlyDelivered (reportBy r (op .limit) k t n) (take (lengthOf (reportBy r (op .limit) k t n)) a) ≡ onlyDelivered (reportBy r (op .limit) k t n) b
-    go Datagram r f = within (leb n (op .limit)) refl
-      where
-        within : (x : Bool) → leb n (op .limit) ≡ x
-            → onlyDelivered (reportBy r (op .limit) Datagram t n) (take (lengthOf (reportBy r (op .limit) Datagram t n)) a) ≡ onlyDelivered (reportBy r (op .limit) Datagram t n) b
-        within true e = unfold reportBy gathersBy onlyDelivered lengthOf in rw e (f e)
-        within false e = unfold reportBy onlyDelivered in rw e
-    go Unknown Endpoint f = unfold reportBy onlyDelivered in refl
-    go Unknown Intermediary f = unfold reportBy onlyDelivered in refl
+    within : (b : Bool) → kindOf op t ≡ Datagram → leb n (op .limit) ≡ b → Says op t n (cond b (Delivered n) (Dropped n))
+    within true k e = saysDelivered (unfold gathers gathersBy in rw (k, e))
+    within false k e = saysDropped
+
+    fits : (b : Bool) → kindOf op t ≡ Address → leb n longestAddressValue ≡ b → Says op t n (cond b (AddressDelivered t n) (Malformed t n))
+    fits true k e = saysAddress (unfold keeps keepsBy in rw (k, e))
+    fits false k e = saysMalformed
+
+    go : (k : Kind) → kindOf op t ≡ k → (r : Role) → Says op t n (reportBy r (op .limit) k t n)
+    go Datagram k r = unfold reportBy in within (leb n (op .limit)) k refl
+    go Address k r = unfold reportBy in fits (leb n longestAddressValue) k refl
+    go Unknown k Endpoint = unfold reportBy in saysSkipped
+    go Unknown k Intermediary = unfold reportBy in saysPassed
+
+module _ (op : Opening) (t n : ℕ) (g a v : List ℕ) (hg : gathers op t n ≡ true → take n g ≡ v) (ha : keeps op t n ≡ true → take n a ≡ v) where
+  judged-by : (r : Report) → Says op t n r → judged r (take (lengthOf r) a) ≡ judged r v
+  unfolding judged lengthOf
+  judged-by r (saysDelivered e) = refl
+  judged-by r saysDropped = refl
+  judged-by r saysSkipped = refl
+  judged-by r saysPassed = refl
+  judged-by r (saysAddress e) = rw (ha e)
+  judged-by r saysMalformed = refl
+
+  -- the value decides what is reported
+  pub same-report : judged (reportOf op t n) (take (lengthOf (reportOf op t n)) a) ≡ judged (reportOf op t n) v
+  same-report = judged-by (reportOf op t n) (says op t n)
+
+  payload-by : (r : Report) → Says op t n r → onlyDelivered (judged r v) (take (lengthOf (judged r v)) g) (take (lengthOf (judged r v)) a) ≡ onlyDelivered (judged r v) v v
+  unfolding judged lengthOf onlyDelivered
+  payload-by r (saysDelivered e) = hg e
+  payload-by r saysDropped = refl
+  payload-by r saysSkipped = refl
+  payload-by r saysPassed = refl
+  payload-by r (saysAddress e) = go (wellFormed t v)
+    where
+      go : (b : Bool) → onlyDelivered (cond b (AddressDelivered t n) (Malformed t n)) (take (lengthOf (cond b (AddressDelivered t n) (Malformed t n))) g) (take (lengthOf (cond b (AddressDelivered t n) (Malformed t n))) a)
+          ≡ onlyDelivered (cond b (AddressDelivered t n) (Malformed t n)) v v
+      go true = unfold onlyDelivered lengthOf in ha e
+      go false = unfold onlyDelivered lengthOf in refl
+  payload-by r saysMalformed = refl
+
+  pub same-payload : onlyDelivered (judged (reportOf op t n) v) (take (lengthOf (judged (reportOf op t n) v)) g) (take (lengthOf (judged (reportOf op t n) v)) a) ≡ onlyDelivered (judged (reportOf op t n) v) v v
+  same-payload = payload-by (reportOf op t n) (says op t n)

@@ -1,9 +1,16 @@
 pub mod Grammar
+pub mod Written
 pub mod Appending
 pub mod Plans
-pub mod Forwarding
 pub mod Gathering
+pub mod Forwarding
 pub mod Steps
 pub mod Lists
 pub mod Orders
 pub mod Makeable
+pub mod States
+pub mod NotOpted
+pub mod Plain
+pub mod Marks
+pub mod Addresses
+pub mod Buffers

@@ -2,7 +2,7 @@
 use mathlib.Core.Path.{_≡_, refl, sym, ap, _∙_, subst}
 use Prim.Native.Nat.{ℕ, suc, _+_, _-_, _≤_}
 use native.Mathlib.Omega.{arith}
-use mathlib.Core.Bool.{Bool, true, false}
+use mathlib.Core.Bool.{Bool, true, false, _||_}
 use mathlib.Core.Option.{Option, none, some}
 use mathlib.Core.List.{List, [], _∷_}
 use lib.ListN.{length, take, drop, length-append}
@@ -28,35 +28,38 @@ use Rattle.capsule.specs.declared.reader.CloseAnswer.the-variants as closedAs
 use Rattle.capsule.specs.declared.reader.Closed.{Closed}
 use Rattle.capsule.specs.declared.reader.Verdict.{Verdict}
 use Rattle.capsule.specs.declared.reader.Verdict.the-variants.{Accepted, Refused}
-use Rattle.capsule.specs.Grammar.{Stage, part, Parts, parts}
+use Rattle.capsule.specs.Grammar.{Stage, inType, inLength, inValue, part, Parts}
+use Rattle.addresses.specs.Addresses.{longestAddressValue}
+use Rattle.capsule.specs.Kinds.{opted, extentOf, finishesIn, gathers, keeps}
 use Rattle.capsule.specs.Calls.{Lent, Call, feed, close, Reply, closed, run}
-use Rattle.capsule.specs.Book.{onlyIf, forwarded, append, Book, newBook, bookVerdict, gained, bookFeed, endOf, bookClose, bookCall}
+use Rattle.capsule.specs.Book.{partsFor, onlyIf, forwarded, append, endedBy, payloadBy, Book, newBook, bookVerdict, gained, bookFeed, endOf, bookClose, bookCall}
 use Rattle.capsule.specs.State.{phaseAt, phaseOf, readerOf, ofBook}
 use Rattle.capsule.specs.Reader.{opening, fresh, isOpening, openOf, isMakeablePhase, isMakeable, verdictOf, planOf, heldOf, wrote, fedBy, takeOf, feedBy, feedOf, endAt, closing, closeOf, feedReply, closeReply, readerCall}
-use Rattle.capsule_laws.specs.Claims.{StandsAt, Stands, AllBytes, Agrees, Follows, leftBy, HandedOn, LentWell, Demand3, Demand3Standing}
-use Rattle.capsule_laws.proofs.Grammar.{Sees, seesType, seesLength, seesValue, head-fits, parts-nil, tail-sees, tail-bytes}
+use Rattle.capsule_laws.specs.Claims.{StandsAt, StandsBy, Stands, AllBytes, Agrees, Follows, leftBy, HandedOn, LentWell, Demand3, Demand3Standing}
+use Rattle.capsule_laws.proofs.Grammar.{Sees, seesType, seesLength, seesValue, head-fits}
+use Rattle.capsule_laws.proofs.Appending.{Shows, for-nil, tail-shows, for-bytes}
 use Rattle.capsule_laws.proofs.Gathering.{take-sets}
-use Rattle.capsule.proofs.Planning.{zero-one, plan-fits, held-few}
+use Rattle.capsule.proofs.Planning.{zero-one, no-true, keeps-opted, plan-fits, held-few}
 use Rattle.capsule.proofs.Verdicts.{Accepts, accepts}
 use Rattle.capsule_laws.proofs.Steps.{Same, same, between}
 
 -- ---- what a stream makes is makeable
 
-made-phase : (r : List ℕ) (x : Stage) → Sees r (part x) → Bytes r → isMakeablePhase (phaseAt r x) ≡ true
+made-phase : (op : Opening) (r : List ℕ) (x : Stage) → Shows op r (part x) → Bytes r → isMakeablePhase op (phaseAt op r x) ≡ true
 unfolding isMakeablePhase phaseAt
-made-phase r x (seesType e) h = partial-occurs r h e
-made-phase r x (seesLength {t = t} {j = j} e d) h =
+made-phase op r x (seesType e) h = partial-occurs r h e
+made-phase op r x (seesLength {t = t} {j = j} e d) h =
     both _ _ (le-leb t largest (read-bounds r t j h e .0)) (partial-occurs (drop j r) (bytes-drop j r h) d)
-made-phase r x (seesValue {t = t} {j = j} {n = n} {k = k} e d l) h =
+made-phase op r x (seesValue {t = t} {j = j} {n = n} {k = k} e d l) h =
     let f = head-fits r e d in
-    let left = j + k + n - length r in
+    let left = j + k + extentOf op t n - length r in
     both _ _ (le-leb t largest (read-bounds r t j h e .0))
     (both _ _ (le-leb n largest (read-bounds (drop j r) n k (bytes-drop j r h) d .0))
-    (both _ _ (lt-ltb 0 left (omega arith)) (le-leb left n (omega arith))))
+    (both _ _ (lt-ltb 0 left (omega arith)) (le-leb left (extentOf op t n) (omega arith))))
 
-pub made-stream : (s : List ℕ) → Bytes s → isMakeablePhase (phaseOf (parts s)) ≡ true
+pub made-stream : (op : Opening) (s : List ℕ) → Bytes s → isMakeablePhase op (phaseOf op (partsFor op s)) ≡ true
 unfolding phaseOf
-made-stream s h = made-phase (parts s .tail) (parts s .stage) (tail-sees s) (tail-bytes s h)
+made-stream op s h = made-phase op (partsFor op s .tail) (partsFor op s .stage) (tail-shows op s) (for-bytes op s h)
 
 -- ---- the book of an accepted opening, whose stream is bytes
 
@@ -66,10 +69,10 @@ pub record Open (k : Book) : Type 0 where
 
 pub made-book : (k : Book) → Open k → isMakeable (ofBook k) ≡ true
 unfolding isMakeable ofBook readerOf
-made-book k o = both _ _ (o .accepted) (made-stream (k .stream) (o .bytes))
+made-book k o = both _ _ (o .accepted) (made-stream (k .opening) (k .stream) (o .bytes))
 
 pub verdict-same : (k : Book) (p : List ℕ) (b : Lent) → Open k
-    → verdictOf (ofBook k) (length p) (length (b .gathering)) (length (b .output)) ≡ bookVerdict k p b
+    → verdictOf (ofBook k) (length p) (length (b .gathering)) (length (b .addresses)) (length (b .output)) ≡ bookVerdict k p b
 unfolding verdictOf bookVerdict
 verdict-same k p b o = rw (made-book k o) (unfold ofBook readerOf in refl)
 
@@ -94,12 +97,12 @@ front-written o w h = take-sets o w 0 (length w) (omega arith) h
 
 -- ---- one accepted feeding
 
-module _ (k : Book) (p : List ℕ) (b : Lent) (o : Open k) (h : Bytes p) (v : bookVerdict k p b ≡ Accepted) (s : Stands k (b .gathering)) where
+module _ (k : Book) (p : List ℕ) (b : Lent) (o : Open k) (h : Bytes p) (v : bookVerdict k p b ≡ Accepted) (s : Stands k b) where
   abbrev op : Opening
   op = k .opening
 
   abbrev phase : Phase
-  phase = phaseOf (parts (k .stream))
+  phase = phaseOf op (partsFor op (k .stream))
 
   abbrev plan : Plan
   plan = planOf op p phase
@@ -107,25 +110,29 @@ module _ (k : Book) (p : List ℕ) (b : Lent) (o : Open k) (h : Bytes p) (v : bo
   abbrev w : List ℕ
   w = wrote (plan .forward) (heldOf phase) (plan .consumed) p
 
-  may : Accepts (ofBook k) (length p) (length (b .gathering)) (length (b .output))
-  may = accepts (ofBook k) (length p) (length (b .gathering)) (length (b .output)) (verdict-same k p b o ∙ v)
+  may : Accepts (ofBook k) (length p) (length (b .gathering)) (length (b .addresses)) (length (b .output))
+  may = accepts (ofBook k) (length p) (length (b .gathering)) (length (b .addresses)) (length (b .output)) (verdict-same k p b o ∙ v)
 
   enough : op .limit ≤ length (b .gathering)
   unfolding ofBook readerOf
   enough = may .gathers
 
-  there : Same op (k .stream) p (b .gathering) plan (append (k .stream) p)
-  there = same op (k .stream) p (b .gathering) (o .bytes) h enough s
+  enough-too : opted op ≡ true → longestAddressValue ≤ length (b .addresses)
+  unfolding ofBook readerOf
+  enough-too = may .keeps
+
+  there : Same op (k .stream) p (b .gathering) (b .addresses) plan (append op (k .stream) p)
+  there = same op (k .stream) p (b .gathering) (b .addresses) (o .bytes) h enough enough-too (s .0) (s .1)
 
   fits : length w ≤ length (b .output)
   unfolding ofBook readerOf
   fits =
-      let m = made-stream (k .stream) (o .bytes) in
+      let m = made-stream op (k .stream) (o .bytes) in
       let f = plan-fits op p phase m in
       wrote-fits (plan .forward) (heldOf phase) (plan .consumed) p (b .output) (f .within)
-      (λ i. omega (arith, may .forwards (f .forwards i), held-few phase m, f .within))
+      (λ i. omega (arith, may .forwards (f .forwards i), held-few op phase m, f .within))
 
-  gains : w ≡ gained op (k .stream) (append (k .stream) p .stream)
+  gains : w ≡ gained op (k .stream) (append op (k .stream) p .stream)
   unfolding gained
   gains = sym (ap (drop (length (forwarded op (k .stream)))) (there .writes) ∙ drop-append-seam (forwarded op (k .stream)) w)
 
@@ -133,11 +140,11 @@ module _ (k : Book) (p : List ℕ) (b : Lent) (o : Open k) (h : Bytes p) (v : bo
   unfolding takeOf fedBy ofBook readerOf bookFeed feedReply
   taken =
       let c = there .consumed in
-      rw (front-written (b .output) w fits, there .payload, there .ended, gains, c, there .phase, unmarked k p b v)
+      rw (front-written (b .output) w fits, there .ended, there .payload, gains, c, there .phase, unmarked k p b v)
 
-  pub taken-stands : Stands (bookFeed k p Accepted .0) (takeOf (ofBook k) p b .buffers .gathering)
+  pub taken-stands : Stands (bookFeed k p Accepted .0) (takeOf (ofBook k) p b .buffers)
   unfolding takeOf fedBy ofBook readerOf bookFeed
-  taken-stands = there .stands
+  taken-stands = (there .gathered, there .kept)
 
   pub taken-open : Open (bookFeed k p Accepted .0)
   unfolding bookFeed
@@ -151,12 +158,12 @@ pub record One (k : Book) (c : Call) : Type 0 where
 
 module _ (k : Book) (p : List ℕ) (b : Lent) where
   -- the reader's answer to a feeding, by its verdict
-  pub fed-by : (v : Verdict) → verdictOf (ofBook k) (length p) (length (b .gathering)) (length (b .output)) ≡ v
+  pub fed-by : (v : Verdict) → verdictOf (ofBook k) (length p) (length (b .gathering)) (length (b .addresses)) (length (b .output)) ≡ v
       → _≡_ {A = Reader × Reply} (readerCall (ofBook k) (feed p b)) (feedBy (ofBook k) p b v .reader, feedReply (feedBy (ofBook k) p b v .answer) (feedBy (ofBook k) p b v .buffers))
   unfolding readerCall feedOf
   fed-by v e = rw e
 
-  left-by : (v : Verdict) → verdictOf (ofBook k) (length p) (length (b .gathering)) (length (b .output)) ≡ v → feedOf (ofBook k) p b ≡ feedBy (ofBook k) p b v
+  pub left-by : (v : Verdict) → verdictOf (ofBook k) (length p) (length (b .gathering)) (length (b .addresses)) (length (b .output)) ≡ v → feedOf (ofBook k) p b ≡ feedBy (ofBook k) p b v
   unfolding feedOf
   left-by v e = rw e
 
@@ -168,12 +175,12 @@ module _ (k : Book) (p : List ℕ) (b : Lent) where
   unfolding feedBy feedReply bookFeed
   refused-by r = refl
 
-  taken-by : Open k → Bytes p → bookVerdict k p b ≡ Accepted → Stands k (b .gathering)
+  taken-by : Open k → Bytes p → bookVerdict k p b ≡ Accepted → Stands k b
       → _≡_ {A = Reader × Reply} (feedBy (ofBook k) p b Accepted .reader, feedReply (feedBy (ofBook k) p b Accepted .answer) (feedBy (ofBook k) p b Accepted .buffers)) (ofBook (bookFeed k p Accepted .0), bookFeed k p Accepted .1)
   unfolding feedBy
   taken-by o h v s = taken k p b o h v s
 
-  one-feed : Open k → Bytes p → (bookVerdict k p b ≡ Accepted → Stands k (b .gathering)) → One k (feed p b)
+  one-feed : Open k → Bytes p → (bookVerdict k p b ≡ Accepted → Stands k b) → One k (feed p b)
   one-feed o h s = go (bookVerdict k p b) refl
     where
       go : (v : Verdict) → bookVerdict k p b ≡ v → One k (feed p b)
@@ -189,14 +196,14 @@ module _ (k : Book) (p : List ℕ) (b : Lent) where
           }
 
 -- a clean close finds the tail empty exactly between capsules
-end-same : (r : List ℕ) (x : Stage) → Sees r (part x) → endAt (phaseAt r x) ≡ endOf r
+end-same : (op : Opening) (r : List ℕ) (x : Stage) → Shows op r (part x) → endAt (phaseAt op r x) ≡ endOf r
 unfolding endAt phaseAt endOf partialOf
-end-same [] x (seesType e) = refl
-end-same (b ∷ r) x (seesType e) = rw (ne-eqb (suc (length r)) 0 (λ z. omega arith))
-end-same [] x (seesLength e d) = no-whole-nil e
-end-same (b ∷ r) x (seesLength e d) = refl
-end-same [] x (seesValue e d h) = no-whole-nil e
-end-same (b ∷ r) x (seesValue e d h) = refl
+end-same op [] x (seesType e) = refl
+end-same op (b ∷ r) x (seesType e) = rw (ne-eqb (suc (length r)) 0 (λ z. omega arith))
+end-same op [] x (seesLength e d) = no-whole-nil e
+end-same op (b ∷ r) x (seesLength e d) = refl
+end-same op [] x (seesValue e d h) = no-whole-nil e
+end-same op (b ∷ r) x (seesValue e d h) = refl
 
 close-reply : (r : List ℕ) → closeReply (endOf r) ≡ closed (endOf r)
 unfolding closeReply endOf
@@ -216,9 +223,9 @@ module _ (k : Book) (o : Open k) where
   unfolding readerCall
   close-as c e = rw e
 
-  ended-same : endAt (phaseOf (parts (k .stream))) ≡ endOf (parts (k .stream) .tail)
+  ended-same : endAt (phaseOf (k .opening) (partsFor (k .opening) (k .stream))) ≡ endOf (partsFor (k .opening) (k .stream) .tail)
   unfolding phaseOf
-  ended-same = end-same (parts (k .stream) .tail) (parts (k .stream) .stage) (tail-sees (k .stream))
+  ended-same = end-same (k .opening) (partsFor (k .opening) (k .stream) .tail) (partsFor (k .opening) (k .stream) .stage) (tail-shows (k .opening) (k .stream))
 
   pub closed-same : (m : Bool) → k .mark ≡ m → readerCall (ofBook k) close ≡ (ofBook (bookClose k m .0), bookClose k m .1)
   unfolding bookClose ofBook readerOf closeReply
@@ -226,7 +233,7 @@ module _ (k : Book) (o : Open k) where
   closed-same false e =
       close-as _ (close-live (ofBook k) (made-book k o) e)
       ∙ ap (λ (a : CloseAnswer). (readerOf (k .opening) (k .stream) true, closeReply a)) ended-same
-      ∙ ap (λ (a : Reply). (readerOf (k .opening) (k .stream) true, a)) (close-reply (parts (k .stream) .tail))
+      ∙ ap (λ (a : Reply). (readerOf (k .opening) (k .stream) true, a)) (close-reply (partsFor (k .opening) (k .stream) .tail))
 
   pub one-close : One k close
   unfolding bookCall
@@ -251,38 +258,48 @@ all-calls k (close ∷ cs) o h l =
 -- ---- buffers that are handed on
 
 -- what the last accepted feeding left, against the stream
-abbrev Ready : Book → Option (List ℕ) → Type 0
-Ready k none = (g : List ℕ) → Stands k g
-Ready k (some g) = Stands k g
+abbrev Ready : Book → Option Lent → Type 0
+Ready k none = (b : Lent) → Stands k b
+Ready k (some b) = Stands k b
 
-ready-lent : (k : Book) (last : Option (List ℕ)) (g : List ℕ) → Ready k last → Follows last g → Stands k g
-ready-lent k none g r f = r g
-ready-lent k (some h) g r f = subst (λ (l : List ℕ). Stands k l) (sym f) r
+-- a reader that did not opt in keeps nothing in the second buffer
+pub none-kept : (op : Opening) (r : List ℕ) (x : Stage) (a : List ℕ) → opted op ≡ false → StandsAt (keeps op) r x a
+none-kept op r inType a e = tt
+none-kept op r (inLength t j) a e = tt
+none-kept op r (inValue t n j) a e = λ k. no-true (sym e ∙ keeps-opted op t n k)
 
-ready-close : (k : Book) (last : Option (List ℕ)) (m : Bool) → Ready k last → Ready (bookClose k m .0) last
+ready-lent : (k : Book) (last : Option Lent) (b : Lent) → Ready k last → Follows (k .opening) last b → Stands k b
+ready-lent k none b r f = r b
+ready-lent k (some l) b r f = (subst (λ (g : List ℕ). StandsBy (gathers (k .opening)) k g) (sym (f .0)) (r .0), go (opted (k .opening)) refl)
+  where
+    go : (o : Bool) → opted (k .opening) ≡ o → StandsBy (keeps (k .opening)) k (b .addresses)
+    go true e = subst (λ (g : List ℕ). StandsBy (keeps (k .opening)) k g) (sym (f .1 e)) (r .1)
+    go false e = none-kept (k .opening) (partsFor (k .opening) (k .stream) .tail) (partsFor (k .opening) (k .stream) .stage) (b .addresses) e
+
+ready-close : (k : Book) (last : Option Lent) (m : Bool) → Ready k last → Ready (bookClose k m .0) last
 unfolding bookClose
 ready-close k none true r = r
 ready-close k (some g) true r = r
 ready-close k none false r = r
 ready-close k (some g) false r = r
 
-ready-feed : (k : Book) (last : Option (List ℕ)) (p : List ℕ) (b : Lent) → Open k → Bytes p → Ready k last → (bookVerdict k p b ≡ Accepted → Follows last (b .gathering))
-    → Ready (bookCall k (feed p b) .0) (leftBy (bookVerdict k p b) last (feedOf (ofBook k) p b .buffers .gathering))
+ready-feed : (k : Book) (last : Option Lent) (p : List ℕ) (b : Lent) → Open k → Bytes p → Ready k last → (bookVerdict k p b ≡ Accepted → Follows (k .opening) last b)
+    → Ready (bookCall k (feed p b) .0) (leftBy (bookVerdict k p b) last (feedOf (ofBook k) p b .buffers))
 ready-feed k last p b o h r f = go (bookVerdict k p b) refl
   where
-    go : (v : Verdict) → bookVerdict k p b ≡ v → Ready (bookCall k (feed p b) .0) (leftBy (bookVerdict k p b) last (feedOf (ofBook k) p b .buffers .gathering))
+    go : (v : Verdict) → bookVerdict k p b ≡ v → Ready (bookCall k (feed p b) .0) (leftBy (bookVerdict k p b) last (feedOf (ofBook k) p b .buffers))
     go (Refused why) v = rw (v, book-by k p b (Refused why) v) (unfold bookFeed leftBy in r)
     go Accepted v =
         rw (v, book-by k p b Accepted v, left-by k p b Accepted (verdict-same k p b o ∙ v))
-        (unfold leftBy feedBy in taken-stands k p b o h v (ready-lent k last (b .gathering) r (f v)))
+        (unfold leftBy feedBy in taken-stands k p b o h v (ready-lent k last b r (f v)))
 
-lent-well : (k : Book) (last : Option (List ℕ)) (cs : List Call) → Open k → AllBytes cs → Ready k last → HandedOn last k (ofBook k) cs → LentWell k cs
+lent-well : (k : Book) (last : Option Lent) (cs : List Call) → Open k → AllBytes cs → Ready k last → HandedOn last k (ofBook k) cs → LentWell k cs
 lent-well k last [] o h r l = tt
 lent-well k last (feed p b ∷ cs) o h r l =
-    let s : bookVerdict k p b ≡ Accepted → Stands k (b .gathering) = λ v. ready-lent k last (b .gathering) r (l .0 v) in
+    let s : bookVerdict k p b ≡ Accepted → Stands k b = λ v. ready-lent k last b r (l .0 v) in
     let y = one-feed k p b o (h .0) s in
     let k′ = bookCall k (feed p b) .0 in
-    let last′ = leftBy (bookVerdict k p b) last (feedOf (ofBook k) p b .buffers .gathering) in
+    let last′ = leftBy (bookVerdict k p b) last (feedOf (ofBook k) p b .buffers) in
     let l′ : HandedOn last′ k′ (ofBook k′) cs = subst (λ (x : Reader × Reply). HandedOn last′ k′ (x .0) cs) (y .same-answer) (l .1) in
     (s, lent-well k′ last′ cs (y .stays-open) (h .1) (ready-feed k last p b o (h .0) r (l .0)) l′)
 lent-well k last (close ∷ cs) o h r l =
@@ -293,17 +310,17 @@ lent-well k last (close ∷ cs) o h r l =
 
 -- ---- from the opening
 
-pub open-fresh : (role : Role) (limit : ℕ) (draft : Bool) (r : Reader) → openOf role limit draft ≡ opened.Ready r → (isOpening (opening role limit draft) ≡ true) × (r ≡ fresh (opening role limit draft))
+pub open-fresh : (role : Role) (limit : ℕ) (draft addresses : Bool) (r : Reader) → openOf role limit draft addresses ≡ opened.Ready r → (isOpening (opening role limit draft addresses) ≡ true) × (r ≡ fresh (opening role limit draft addresses))
 unfolding openOf
-open-fresh role limit draft r e = go (isOpening (opening role limit draft)) refl
+open-fresh role limit draft addresses r e = go (isOpening (opening role limit draft addresses)) refl
   where
-    go : (t : Bool) → isOpening (opening role limit draft) ≡ t → (isOpening (opening role limit draft) ≡ true) × (r ≡ fresh (opening role limit draft))
+    go : (t : Bool) → isOpening (opening role limit draft addresses) ≡ t → (isOpening (opening role limit draft addresses) ≡ true) × (r ≡ fresh (opening role limit draft addresses))
     go true d = (d, cc (rw d at e))
     go false d = zero-one (cc (rw d at e))
 
 pub fresh-book : (op : Opening) → fresh op ≡ ofBook (newBook op)
 unfolding ofBook newBook readerOf phaseOf
-fresh-book op = λ i. record { opening = op; phase = (between ∙ ap (λ (x : Parts). phaseAt (x .tail) (x .stage)) (sym parts-nil)) i; finished = false }
+fresh-book op = λ i. record { opening = op; phase = (between op ∙ ap (λ (x : Parts). phaseAt op (x .tail) (x .stage)) (sym (for-nil op))) i; finished = false }
 
 pub fresh-open : (op : Opening) → isOpening op ≡ true → Open (newBook op)
 unfolding newBook
@@ -311,19 +328,22 @@ fresh-open op e = record { accepted = e; bytes = tt }
 
 fresh-ready : (op : Opening) → Ready (newBook op) none
 unfolding newBook
-fresh-ready op g = subst (λ (x : Parts). StandsAt op (x .tail) (x .stage) g) (sym parts-nil) tt
+fresh-ready op l = (
+  subst (λ (x : Parts). StandsAt (gathers op) (x .tail) (x .stage) (l .gathering)) (sym (for-nil op)) tt,
+  subst (λ (x : Parts). StandsAt (keeps op) (x .tail) (x .stage) (l .addresses)) (sym (for-nil op)) tt,
+)
 
 from-opening : (op : Opening) (cs : List Call) → isOpening op ≡ true → AllBytes cs → LentWell (newBook op) cs → Agrees op (fresh op) cs
 from-opening op cs e h l = rw (fresh-book op) (all-calls (newBook op) cs (fresh-open op e) h l)
 
 pub demand-3-standing : Demand3Standing
-demand-3-standing role limit draft r e cs h l =
-    let f = open-fresh role limit draft r e in
-    rw (f .1) (from-opening (opening role limit draft) cs (f .0) h l)
+demand-3-standing role limit draft addresses r e cs h l =
+    let f = open-fresh role limit draft addresses r e in
+    rw (f .1) (from-opening (opening role limit draft addresses) cs (f .0) h l)
 
 pub demand-3 : Demand3
-demand-3 role limit draft r e cs h l =
-    let f = open-fresh role limit draft r e in
-    let op = opening role limit draft in
+demand-3 role limit draft addresses r e cs h l =
+    let f = open-fresh role limit draft addresses r e in
+    let op = opening role limit draft addresses in
     let l′ : HandedOn none (newBook op) (ofBook (newBook op)) cs = subst (λ (x : Reader). HandedOn none (newBook op) x cs) (f .1 ∙ fresh-book op) l in
-    demand-3-standing role limit draft r e cs h (lent-well (newBook op) none cs (fresh-open op (f .0)) h (fresh-ready op) l′)
+    demand-3-standing role limit draft addresses r e cs h (lent-well (newBook op) none cs (fresh-open op (f .0)) h (fresh-ready op) l′)

@@ -2,7 +2,6 @@
 use mathlib.Core.Path.{_≡_, sym, ap, _∙_, subst}
 use Prim.Native.Nat.{ℕ, _+_, _-_, _^_, _≤_}
 use native.Mathlib.Omega.{arith}
-use native.Mathlib.Numerals.{one-add}
 use mathlib.Core.List.{List, [], _∷_, _++_}
 use lib.ListN.{length, drop, length-append}
 use lib.Seq.{drop-at}
@@ -10,10 +9,9 @@ use borrow.Author.Tests.{le-leb, lt-ltb}
 use Rattle.wire.specs.declared.varint.Varint.the-variants.{Whole}
 use Rattle.wire.specs.Varint.{largest, readVarint, leastSize, encode}
 use Rattle.wire.specs.Units.{largestQuarter}
-use Rattle.wire.proofs.Encoding.{read-back, length-encode, encode-one, size-at, width-0, shortest}
+use Rattle.wire.proofs.Encoding.{read-back, length-encode, shortest}
 use Rattle.streams.specs.Tables.{Table}
-use Rattle.capsule.specs.Grammar.{inType, whole}
-use Rattle.capsule_laws.proofs.Grammar.{Sees, seesWhole, parts-one}
+use Rattle.capsule_laws.proofs.Written.{one-written}
 use Rattle.datagram.specs.declared.judge.Judged.the-variants.{Delivered}
 use Rattle.datagram.specs.Judging.{judgedRecord, judgedFound, judgedQuarter, judgedRead, judgedOf, behind, isDelivered, ifDelivered, payloadOf}
 use Rattle.datagram.specs.Sending.{capsuleBytes, frameBytes}
@@ -21,39 +19,9 @@ use Rattle.datagram.specs.Claims.{CapsuleReadBack, Receives, FrameReadBa
 
 -- ---- capsules
 
-type-read : (rest : List ℕ) → readVarint (0 ∷ rest) ≡ Whole 0 1
-type-read rest =
-    let a : readVarint (encode 0 ++ rest) ≡ Whole 0 (leastSize 0) = read-back 0 (unfold largest in omega arith) rest .0 in
-    let b : encode 0 ≡ 0 ∷ [] = sym (encode-one 0 (omega arith)) in
-    let c : leastSize 0 ≡ 1 = sym (size-at 0 0 (width-0 0 (omega arith))) in
-    subst (λ (l : List ℕ). readVarint (l ++ rest) ≡ Whole 0 1) b (a ∙ ap (Whole 0) c)
-
-module _ (payload : List ℕ) (h : length payload ≤ 65535) where
-  abbrev n : ℕ
-  n = length payload
-
-  abbrev k : ℕ
-  k = leastSize n
-
-  length-read : readVarint (encode n ++ payload) ≡ Whole n k
-  length-read = read-back n (unfold largest in omega arith) payload .0
-
-  capsule-length : length (capsuleBytes payload) ≡ 1 + k + n
-  unfolding capsuleBytes
-  capsule-length = omega (arith, length-append (encode n) payload, length-encode n)
-
-  capsule-seen : Sees (capsuleBytes payload) (whole 0 n (1 + k))
-  unfolding capsuleBytes
-  capsule-seen = seesWhole (type-read (encode n ++ payload)) length-read (omega (arith, capsule-length))
-
-  payload-behind : drop (1 + k) (capsuleBytes payload) ≡ payload
-  unfolding capsuleBytes
-  payload-behind = ap (λ (j : ℕ). drop j (0 ∷ (encode n ++ payload))) (one-add k) ∙ drop-at (encode n) payload k (length-encode n)
-
 pub capsule-read-back : CapsuleReadBack
-capsule-read-back payload h =
-    parts-one (capsuleBytes payload) 0 (length payload) (1 + leastSize (length payload)) (capsule-seen payload h) (sym (capsule-length payload h))
-    ∙ ap (λ (v : List ℕ). record { capsules = record { ctype = 0; value = v; bytes = capsuleBytes payload } ∷ []; tail = []; stage = inType }) (payload-behind payload h)
+unfolding capsuleBytes
+capsule-read-back payload h = one-written 0 payload (omega arith) (unfold largest in omega arith)
 
 -- ---- frames
 

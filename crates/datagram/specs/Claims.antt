@@ -21,7 +21,7 @@ abbrev pub CapsuleReadBack : Type 0
 CapsuleReadBack =
     (payload : List ℕ)
     → length payload ≤ 65535
-    → parts (capsuleBytes payload) ≡ record { capsules = record { ctype = 0; value = payload; bytes = capsuleBytes payload } ∷ []; tail = []; stage = inType }
+    → parts (capsuleBytes payload) ≡ record { capsules = record { ctype = 0; size = length payload; value = payload; bytes = capsuleBytes payload } ∷ []; tail = []; stage = inType }
 
 -- a written frame is judged delivered, same stream, same payload, by any table that holds the quarter open for receiving with
 -- semantics for datagrams, under limits that allow it

@@ -1,4 +1,4 @@
--- What stands among a function's parameters beside the struct that it is about: nothing, or a piece to read and two buffers to write. It is only passed on to a callee. Assumes nothing.
+-- What stands among a function's parameters beside the struct that it is about: slices to read and to write, or nothing. It is only passed on to a callee. Assumes nothing.
 use mathlib.Core.Path.{refl}
 use Prim.Native.Nat.{ℕ}
 use mathlib.Core.List.{List, [], _∷_}
@@ -8,10 +8,10 @@ use base.Logic.{ent, guard, guardI}
 use prog.Wp.{Heap}
 use ghost.Atoms.{Atoms, sem}
 use contract.Lifetimes.{Lfts, lftAt}
-use types.Kit.{Given, ‵, _$_, _∵_, !, qed, move, drop, check, fsplit, fjoin, feqL, done}
+use types.Kit.{Given, ‵, given, _$_, _∵_, !, qed, move, use1, drop, learn, check, fsplit, fjoin, feqL, done}
 use denote.Builtin.{u8}
 use denote.Exit.{yes}
-use denote.Laws.{Are, Ises, Spells, Tellss, Typed, all-typed}
+use denote.Laws.{Are, Ises, Lawfuls, Spells, Tellss, Typed, all-typed}
 use denote.RattleType.{Denots, Valss, flat, mirs}
 use denote.Signature.{AllWithin, Slot, mutSliceOf, plain, shrSliceOf, typesAt}
 use denote.Slice.{mut-slice-lawful, mut-slice-tells, shr-slice-lawful, shr-slice-tells, slice-vals}
@@ -26,6 +26,7 @@ pub record Beside (n : ℕ) : Type 2 where
   pub spells : (κs : Lfts n) → Spells (typesAt slots κs)
   pub tells : (κs : Lfts n) → Tellss (typesAt slots κs) (Ises (typesAt slots κs)) (spells κs)
   pub goes : {M : Type 1} (𝓤 : URA M) (H : Heap 𝓤) (A : Atoms 𝓤) (W : Given 𝓤 H A) → AllGo 𝓤 H A W n slots kept stays
+  pub lawful : {M : Type 1} (𝓤 : URA M) (H : Heap 𝓤) (A : Atoms 𝓤) (W : Given 𝓤 H A) (κs : Lfts n) → Lawfuls 𝓤 H A (typesAt slots κs)
   -- what a callee says of them at its exit is what its caller has of them
   pub passed-on : {M : Type 1} (𝓤 : URA M) (H : Heap 𝓤) (A : Atoms 𝓤) (W : Given 𝓤 H A) (κs : Lfts n) (a : Denots (typesAt slots κs)) (ws : Fins κs slots kept a) (vss : Valss (typesAt slots κs))
       → ent 𝓤 (sem 𝓤 H A (lastsOf κs slots kept a ws)) (guard 𝓤 (fitsOf κs slots kept stays a ws) (sem 𝓤 H A (hasOf κs slots kept stays a ws vss)))
@@ -38,39 +39,57 @@ alone n = record {
   spells = λ κs. tt;
   tells = λ κs. tt;
   goes = λ 𝓤 H A W. tt;
+  lawful = λ 𝓤 H A W κs. tt;
   passed-on = λ 𝓤 H A W κs a ws vss. guardI 𝓤 (Unit {0}) _ tt;
 }
 
--- the piece at the lifetime i, the gathering buffer at j and the output at k
-module _ (n i j k : ℕ) (i-in : AllWithin n (i ∷ [])) (j-in : AllWithin n (j ∷ [])) (k-in : AllWithin n (k ∷ [])) where
-  abbrev pub bytes : Slot n
+-- one more, at the lifetime i, before the others
+module _ {n : ℕ} (i : ℕ) (i-in : AllWithin n (i ∷ [])) (B : Beside n) where
+  abbrev bytes : Slot n
   bytes = plain (λ _. u8)
 
-  abbrev pub buffers : Beside n
-  buffers = record {
-    slots = shrSliceOf (i ∷ []) i-in bytes ∷ mutSliceOf (j ∷ []) j-in bytes ∷ mutSliceOf (k ∷ []) k-in bytes ∷ [];
-    kept = (yes, (yes, (yes, tt)));
-    stays = (stay-dropped (shrSliceOf (i ∷ []) i-in bytes) yes, (gave-slice (j ∷ []) j-in bytes, (gave-slice (k ∷ []) k-in bytes, tt)));
-    spells = λ κs. (slice-vals, (slice-vals, (slice-vals, tt)));
-    tells = λ κs. (shr-slice-tells (named i) (lftAt n i i-in κs) u8, (mut-slice-tells (named j) (lftAt n j j-in κs) u8, (mut-slice-tells (named k) (lftAt n k k-in κs) u8, tt)));
-    goes = λ 𝓤 H A W. (goes-dropped 𝓤 H A W n (shrSliceOf (i ∷ []) i-in bytes) yes (λ κs x f. refl), (goes-gave-slice 𝓤 H A W n j j-in bytes, (goes-gave-slice 𝓤 H A W n k k-in bytes, tt)));
+  -- a slice to read
+  abbrev pub piece-and : Beside n
+  piece-and = record {
+    slots = shrSliceOf (i ∷ []) i-in bytes ∷ B .slots;
+    kept = (yes, B .kept);
+    stays = (stay-dropped (shrSliceOf (i ∷ []) i-in bytes) yes, B .stays);
+    spells = λ κs. (slice-vals, B .spells κs);
+    tells = λ κs. (shr-slice-tells (named i) (lftAt n i i-in κs) u8, B .tells κs);
+    goes = λ 𝓤 H A W. (goes-dropped 𝓤 H A W n (shrSliceOf (i ∷ []) i-in bytes) yes (λ κs x f. refl), B .goes 𝓤 H A W);
+    lawful = λ 𝓤 H A W κs. (shr-slice-lawful 𝓤 H A W (named i) (lftAt n i i-in κs) u8, B .lawful 𝓤 H A W κs);
     passed-on = λ 𝓤 H A W κs a ws vss.
-        qed W (‵ (lastsOf κs (shrSliceOf (i ∷ []) i-in bytes ∷ mutSliceOf (j ∷ []) j-in bytes ∷ mutSliceOf (k ∷ []) k-in bytes ∷ []) (yes, (yes, (yes, tt))) a ws) ∷ []) ∵
-        fsplit ! $ drop ! $ fsplit ! $ fsplit ! $ move ! (1 ∷ []) $ feqL ! (λ same-j. move ! (1 ∷ []) $ fsplit ! $ fsplit ! $ move ! (1 ∷ []) $ feqL ! (λ same-k.
-        -- [the output's last list; true; the gathering buffer's]
-        check ! (tt, (same-j, (same-k, tt))) $ fjoin ! $ move ! (1 ∷ 0 ∷ []) $ fjoin ! $ nothing ! $ fjoin ! $ done !));
+        qed W (‵ (lastsOf κs (shrSliceOf (i ∷ []) i-in bytes ∷ B .slots) (yes, B .kept) a ws) ∷ []) ∵
+        fsplit ! $ drop ! $ use1 W (given (fitsOf κs (B .slots) (B .kept) (B .stays) (a .1) (ws .1)) (‵ (hasOf κs (B .slots) (B .kept) (B .stays) (a .1) (ws .1) (vss .1)))) (B .passed-on 𝓤 H A W κs (a .1) (ws .1) (vss .1)) $ learn ! (λ fits.
+        check ! (tt, fits) $ nothing ! $ fjoin ! $ done !);
   }
 
-  -- they fit the locals that hold them
-  pub buffers-fit : {M : Type 1} (𝓤 : URA M) (H : Heap 𝓤) (A : Atoms 𝓤) (W : Given 𝓤 H A) (κs : Lfts n) (a : Denots (typesAt (buffers .slots) κs)) (vss : Valss (typesAt (buffers .slots) κs))
-      → Are (typesAt (buffers .slots) κs) (Ises (typesAt (buffers .slots) κs)) a vss
-      → Typed (mirs (typesAt (buffers .slots) κs)) (flat (typesAt (buffers .slots) κs) vss)
-  buffers-fit 𝓤 H A W κs a vss are =
-      all-typed 𝓤 H A (typesAt (buffers .slots) κs) (shr-slice-lawful 𝓤 H A W (named i) (lftAt n i i-in κs) u8, (mut-slice-lawful 𝓤 H A W (named j) (lftAt n j j-in κs) u8, (mut-slice-lawful 𝓤 H A W (named k) (lftAt n k k-in κs) u8, tt))) a vss are
+  -- a buffer to write
+  abbrev pub buffer-and : Beside n
+  buffer-and = record {
+    slots = mutSliceOf (i ∷ []) i-in bytes ∷ B .slots;
+    kept = (yes, B .kept);
+    stays = (gave-slice (i ∷ []) i-in bytes, B .stays);
+    spells = λ κs. (slice-vals, B .spells κs);
+    tells = λ κs. (mut-slice-tells (named i) (lftAt n i i-in κs) u8, B .tells κs);
+    goes = λ 𝓤 H A W. (goes-gave-slice 𝓤 H A W n i i-in bytes, B .goes 𝓤 H A W);
+    lawful = λ 𝓤 H A W κs. (mut-slice-lawful 𝓤 H A W (named i) (lftAt n i i-in κs) u8, B .lawful 𝓤 H A W κs);
+    passed-on = λ 𝓤 H A W κs a ws vss.
+        qed W (‵ (lastsOf κs (mutSliceOf (i ∷ []) i-in bytes ∷ B .slots) (yes, B .kept) a ws) ∷ []) ∵
+        fsplit ! $ fsplit ! $ move ! (1 ∷ []) $ feqL ! (λ same. move ! (1 ∷ []) $
+        use1 W (given (fitsOf κs (B .slots) (B .kept) (B .stays) (a .1) (ws .1)) (‵ (hasOf κs (B .slots) (B .kept) (B .stays) (a .1) (ws .1) (vss .1)))) (B .passed-on 𝓤 H A W κs (a .1) (ws .1) (vss .1)) $ learn ! (λ fits.
+        check ! (same, fits) $ move ! (1 ∷ 0 ∷ []) $ fjoin ! $ done !));
+  }
 
--- the slices of a function that has a `&mut` before them, and of one that has not
-abbrev pub three-of-four : Beside 4
-three-of-four = buffers 4 1 2 3 tt tt tt
+-- they fit the locals that hold them
+pub others-fit : {n : ℕ} (B : Beside n) {M : Type 1} (𝓤 : URA M) (H : Heap 𝓤) (A : Atoms 𝓤) (W : Given 𝓤 H A) (κs : Lfts n) (a : Denots (typesAt (B .slots) κs)) (vss : Valss (typesAt (B .slots) κs))
+    → Are (typesAt (B .slots) κs) (Ises (typesAt (B .slots) κs)) a vss
+    → Typed (mirs (typesAt (B .slots) κs)) (flat (typesAt (B .slots) κs) vss)
+others-fit B 𝓤 H A W κs a vss are = all-typed 𝓤 H A (typesAt (B .slots) κs) (B .lawful 𝓤 H A W κs) a vss are
 
-abbrev pub three : Beside 3
-three = buffers 3 0 1 2 tt tt tt
+-- the piece, the gathering buffer, the second buffer and the output: of a function that has a `&mut` before them, and of one that has not
+abbrev pub four-of-five : Beside 5
+four-of-five = piece-and 1 tt (buffer-and 2 tt (buffer-and 3 tt (buffer-and 4 tt (alone 5))))
+
+abbrev pub four : Beside 4
+four = piece-and 0 tt (buffer-and 1 tt (buffer-and 2 tt (buffer-and 3 tt (alone 4))))

@@ -8,7 +8,7 @@ use Rattle.capsule.proofs.reader.FeedAnswer as F
 use Rattle.capsule.proofs.reader.Closed as C
 use Rattle.capsule.proofs.reader.Fed as D
 use Rattle.host.specs.Connections.{SameBeside}
-use Rattle.host.proofs.Beside.{alone, three, three-of-four}
+use Rattle.host.proofs.Beside.{alone, four, four-of-five}
 use Rattle.host.proofs.ByValue.{valued}
 use Rattle.host.proofs.Calling.{Fact}
 use Rattle.host.proofs.InPlace.{placed}
@@ -20,15 +20,15 @@ Closes κs a r e = closing (now (e .0)) r ≡ closeOf (now (a .0))
 abbrev pub ClosesIn : Fact (placed connection-struct E.the-row 0 (alone 1))
 ClosesIn κs a r e = (closing (now (e .0) .reader) r ≡ closeOf (now (a .0) .reader)) × SameBeside (now (a .0)) (now (e .0))
 
-abbrev pub Feeds : Fact (placed reader-struct F.the-row 3 three-of-four)
-Feeds κs a r e = feeding (now (e .0)) r (lent (now (e .1 .1 .0)) (now (e .1 .1 .1 .0))) ≡ feedOf (now (a .0)) (now (a .1 .0)) (lent (now (a .1 .1 .0)) (now (a .1 .1 .1 .0)))
+abbrev pub Feeds : Fact (placed reader-struct F.the-row 4 four-of-five)
+Feeds κs a r e = feeding (now (e .0)) r (lent (now (e .1 .1 .0)) (now (e .1 .1 .1 .0)) (now (e .1 .1 .1 .1 .0))) ≡ feedOf (now (a .0)) (now (a .1 .0)) (lent (now (a .1 .1 .0)) (now (a .1 .1 .1 .0)) (now (a .1 .1 .1 .1 .0)))
 
-abbrev pub FeedsIn : Fact (placed connection-struct F.the-row 3 three-of-four)
-FeedsIn κs a r e = (feeding (now (e .0) .reader) r (lent (now (e .1 .1 .0)) (now (e .1 .1 .1 .0))) ≡ feedOf (now (a .0) .reader) (now (a .1 .0)) (lent (now (a .1 .1 .0)) (now (a .1 .1 .1 .0)))) × SameBeside (now (a .0)) (now (e .0))
+abbrev pub FeedsIn : Fact (placed connection-struct F.the-row 4 four-of-five)
+FeedsIn κs a r e = (feeding (now (e .0) .reader) r (lent (now (e .1 .1 .0)) (now (e .1 .1 .1 .0)) (now (e .1 .1 .1 .1 .0))) ≡ feedOf (now (a .0) .reader) (now (a .1 .0)) (lent (now (a .1 .1 .0)) (now (a .1 .1 .1 .0)) (now (a .1 .1 .1 .1 .0)))) × SameBeside (now (a .0)) (now (e .0))
 
 -- by value: `Reader::close` and `Reader::feed`
 abbrev pub ClosesValue : Fact (valued reader-struct C.the-row 0 (alone 0))
 ClosesValue κs a r e = r ≡ closeOf (a .0)
 
-abbrev pub FeedsValue : Fact (valued reader-struct D.the-row 3 three)
-FeedsValue κs a r e = feeding (r .reader) (r .answer) (lent (now (e .1 .1 .0)) (now (e .1 .1 .1 .0))) ≡ feedOf (a .0) (now (a .1 .0)) (lent (now (a .1 .1 .0)) (now (a .1 .1 .1 .0)))
+abbrev pub FeedsValue : Fact (valued reader-struct D.the-row 4 four)
+FeedsValue κs a r e = feeding (r .reader) (r .answer) (lent (now (e .1 .1 .0)) (now (e .1 .1 .1 .0)) (now (e .1 .1 .1 .1 .0))) ≡ feedOf (a .0) (now (a .1 .0)) (lent (now (a .1 .1 .0)) (now (a .1 .1 .1 .0)) (now (a .1 .1 .1 .1 .0)))

@@ -14,12 +14,13 @@ pub fn feed_in_place(
     r: &mut Reader,
     piece: &[u8],
     gathering: &mut [u8],
+    addresses: &mut [u8],
     output: &mut [u8],
 ) -> FeedAnswer
-    ensures { λ a. ⌜ feeding (now (r .exit)) a (lent (now (gathering .exit)) (now (output .exit))) ≡ feedOf (now (r .entry)) (now (piece .entry)) (lent (now (gathering .entry)) (now (output .entry))) ⌝ }
+    ensures { λ a. ⌜ feeding (now (r .exit)) a (lent (now (gathering .exit)) (now (addresses .exit)) (now (output .exit))) ≡ feedOf (now (r .entry)) (now (piece .entry)) (lent (now (gathering .entry)) (now (addresses .entry)) (now (output .entry))) ⌝ }
 {
     let was = *r;
-    let fed = was.feed(piece, gathering, output);
+    let fed = was.feed(piece, gathering, addresses, output);
     *r = fed.reader;
     fed.answer
 }
@@ -34,11 +35,17 @@ pub fn close_in_place(r: &mut Reader) -> CloseAnswer
 }
 
 // From a reader by value to one in place and back: callers of these hold no reference to a reader.
-pub fn feed_by_value(reader: Reader, piece: &[u8], gathering: &mut [u8], output: &mut [u8]) -> Fed
-    ensures { λ f. ⌜ feeding (f .reader) (f .answer) (lent (now (gathering .exit)) (now (output .exit))) ≡ feedOf reader (now (piece .entry)) (lent (now (gathering .entry)) (now (output .entry))) ⌝ }
+pub fn feed_by_value(
+    reader: Reader,
+    piece: &[u8],
+    gathering: &mut [u8],
+    addresses: &mut [u8],
+    output: &mut [u8],
+) -> Fed
+    ensures { λ f. ⌜ feeding (f .reader) (f .answer) (lent (now (gathering .exit)) (now (addresses .exit)) (now (output .exit))) ≡ feedOf reader (now (piece .entry)) (lent (now (gathering .entry)) (now (addresses .entry)) (now (output .entry))) ⌝ }
 {
     let mut own = reader;
-    let answer = feed_in_place(&mut own, piece, gathering, output);
+    let answer = feed_in_place(&mut own, piece, gathering, addresses, output);
     Fed {
         reader: own,
         answer: answer,
@@ -78,12 +85,13 @@ pub fn feed_connection(
     c: &mut Connection,
     piece: &[u8],
     gathering: &mut [u8],
+    addresses: &mut [u8],
     output: &mut [u8],
 ) -> FeedAnswer
-    ensures { λ a. ⌜ (feeding (now (c .exit) .reader) a (lent (now (gathering .exit)) (now (output .exit))) ≡ feedOf (now (c .entry) .reader) (now (piece .entry)) (lent (now (gathering .entry)) (now (output .entry))))
+    ensures { λ a. ⌜ (feeding (now (c .exit) .reader) a (lent (now (gathering .exit)) (now (addresses .exit)) (now (output .exit))) ≡ feedOf (now (c .entry) .reader) (now (piece .entry)) (lent (now (gathering .entry)) (now (addresses .entry)) (now (output .entry))))
         × SameBeside (now (c .entry)) (now (c .exit)) ⌝ }
 {
-    feed_in_place(&mut c.reader, piece, gathering, output)
+    feed_in_place(&mut c.reader, piece, gathering, addresses, output)
 }
 
 pub fn close_connection(c: &mut Connection) -> CloseAnswer
@@ -97,13 +105,14 @@ pub fn feed_connection_by_value(
     connection: Connection,
     piece: &[u8],
     gathering: &mut [u8],
+    addresses: &mut [u8],
     output: &mut [u8],
 ) -> FedConnection
-    ensures { λ f. ⌜ (feeding (f .connection .reader) (f .answer) (lent (now (gathering .exit)) (now (output .exit))) ≡ feedOf (connection .reader) (now (piece .entry)) (lent (now (gathering .entry)) (now (output .entry))))
+    ensures { λ f. ⌜ (feeding (f .connection .reader) (f .answer) (lent (now (gathering .exit)) (now (addresses .exit)) (now (output .exit))) ≡ feedOf (connection .reader) (now (piece .entry)) (lent (now (gathering .entry)) (now (addresses .entry)) (now (output .entry))))
         × SameBeside connection (f .connection) ⌝ }
 {
     let mut own = connection;
-    let answer = feed_connection(&mut own, piece, gathering, output);
+    let answer = feed_connection(&mut own, piece, gathering, addresses, output);
     FedConnection {
         connection: own,
         answer: answer,

@@ -4,12 +4,12 @@ use Rattle.http.specs.Errors.{number}
 use Rattle.http.specs.Field.{inUse, trimStart, trimEnd, sameBytes}
 use Rattle.http.specs.Messages.{fieldCounts, requestMalformed, responseMalformed}
 use Rattle.http.specs.Settings.{receivedSetting, settingError}
-use Rattle.http.specs.Ties.{closeError, judgedError}
+use Rattle.http.specs.Ties.{closeError, reportError, judgedError}
 use Rattle.http.specs.Translation.{translated, answer, nth, becomes}
 use Rattle.http.specs.Cases.{Cases}
 
 pub cases : Cases
-unfolding receivedSetting settingError number requestMalformed responseMalformed fieldCounts inUse trimStart trimEnd sameBytes translated answer nth becomes closeError judgedError
+unfolding receivedSetting settingError number requestMalformed responseMalformed fieldCounts inUse trimStart trimEnd sameBytes translated answer nth becomes closeError reportError judgedError
 cases =
     record {
       good-settings = refl;
@@ -28,5 +28,6 @@ cases =
       unknown-versions = refl;
       translations = refl;
       close-errors = refl;
+      report-errors = refl;
       judged-errors = refl;
     }

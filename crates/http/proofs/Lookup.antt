@@ -1,5 +1,9 @@
 -- Known and unknown numbers in `translated`.
-use mathlib.Core.Path.{_≡_, refl}
+use mathlib.Core.Path.{_≡_, refl, ap, sym}
+use lib.Dec.{eqb}
+use borrow.Author.Tests.{eqb-true}
+use Rattle.http.specs.Claims.{MalformedAsTruncated}
+use mathlib.Core.Bool.{Bool, true, false, cond}
 use mathlib.Core.List.{List, [], _∷_}
 use mathlib.Core.Option.{Option, none, some}
 use Prim.Native.Nat.{ℕ, zero, suc, _-_, _≤_, _<_}
@@ -9,8 +13,8 @@ use lib.ListN.{length, getD, getElem?}
 use Rattle.refusals.specs.Numbers.{unknownErrorOrVersion}
 use Rattle.http.specs.declared.translation.Action.{Action}
 use Rattle.http.specs.declared.translation.Translation.the-variants.{Refused, Becomes}
-use Rattle.http.specs.Errors.{Error, truncated, noSemantics, shortFrame, quarterTooLarge, beyondLimit, badSetting, number}
-use Rattle.http.specs.Translation.{http1, becomes, nth, errors, versions, answer, translated}
+use Rattle.http.specs.Errors.{Error, truncated, noSemantics, shortFrame, quarterTooLarge, beyondLimit, badSetting, malformed, number}
+use Rattle.http.specs.Translation.{Version, http1, http2, http3, becomes, nth, errors, versions, rowOf, answer, translated}
 
 -- ---- the n-th of a list, counted from 1
 
@@ -50,10 +54,26 @@ numbered shortFrame = refl
 numbered quarterTooLarge = refl
 numbered beyondLimit = refl
 numbered badSetting = refl
+numbered malformed = refl
 
 -- what the table has at row i and column j, counted from 0
 abbrev pub entry : ℕ → ℕ → Action
 entry i j = becomes (getD errors i truncated) (getD versions j http1)
+
+-- a malformed capsule is translated as a truncated stream
+pub as-truncated : (v : Version) → becomes truncated v ≡ becomes malformed v
+unfolding becomes
+as-truncated http1 = refl
+as-truncated http2 = refl
+as-truncated http3 = refl
+
+in-row : (error : ℕ) (v : Version) → becomes (getD errors (rowOf error) truncated) v ≡ becomes (getD errors (error - 1) truncated) v
+unfolding rowOf
+in-row error v = go (eqb error 7) refl
+  where
+    go : (t : Bool) → eqb error 7 ≡ t → becomes (getD errors (cond t 0 (error - 1)) truncated) v ≡ becomes (getD errors (error - 1) truncated) v
+    go true e = rw (eqb-true error 7 e) (as-truncated v)
+    go false e = refl
 
 refuses : (e : Option Error) → Refused unknownErrorOrVersion ≡ answer e none
 unfolding answer
@@ -69,6 +89,14 @@ module _ (error version : ℕ) where
   unfolding translated
   unknown-version e = rw e (refuses (nth errors error))
 
-  pub known : 1 ≤ error → error ≤ 6 → 1 ≤ version → version ≤ 3 → Becomes (entry (error - 1) (version - 1)) ≡ translated error version
+  pub known : 1 ≤ error → error ≤ 7 → 1 ≤ version → version ≤ 3 → Becomes (entry (rowOf error) (version - 1)) ≡ translated error version
   unfolding translated answer
-  known e₁ e₂ v₁ v₂ = rw (nth-known errors error truncated e₁ e₂, nth-known versions version http1 v₁ v₂)
+  known e₁ e₂ v₁ v₂ = rw (nth-known errors error truncated e₁ e₂, nth-known versions version http1 v₁ v₂) (ap Becomes (in-row error (getD versions (version - 1) http1)))
+
+pub malformed-as-truncated : MalformedAsTruncated
+unfolding translated nth
+malformed-as-truncated version = go (nth versions version)
+  where
+    go : (v : Option Version) → answer (some malformed) v ≡ answer (some truncated) v
+    go none = unfold answer in refl
+    go (some v) = unfold answer in ap Becomes (sym (as-truncated v))

@@ -7,6 +7,7 @@ use Rattle.refusals.specs.Numbers.{refusal}
 use Rattle.http.specs.declared.errors.ErrorOf.the-variants.{NoError, Is}
 use Rattle.http.specs.declared.messages.Message.the-variants.{Request, Response}
 use Rattle.http.specs.declared.settings.Setting.the-variants.{Accepted, Bad}
+use Rattle.capsule.specs.declared.opening.Report.the-variants as report
 use Rattle.capsule.specs.declared.reader.CloseAnswer.the-variants as closedAs
 use Rattle.datagram.specs.declared.judge.Judged.the-variants as judged
 use Rattle.http.specs.declared.translation.Action.the-variants.{None}
@@ -15,7 +16,7 @@ use Rattle.http.specs.Errors.{number, badSetting}
 use Rattle.http.specs.Field.{inUse}
 use Rattle.http.specs.Messages.{fieldCounts, responseMalformed}
 use Rattle.http.specs.Settings.{receivedSetting, settingError}
-use Rattle.http.specs.Ties.{closeError, judgedError}
+use Rattle.http.specs.Ties.{closeError, reportError, judgedError}
 use Rattle.http.specs.Translation.{translated, close, stream, connection}
 
 pub record Cases : Type 0 where
@@ -51,19 +52,24 @@ pub record Cases : Type 0 where
       ∷ (0x3f ∷ 0x31 ∷ 0x3b ∷ 0x61 ∷ [])
       ∷ [])
       ≡ false ∷ false ∷ false ∷ false ∷ false ∷ false ∷ []
-  pub unknown-errors : map (λ e. translated e 3) (0 ∷ 7 ∷ (2 ^ 64 - 1) ∷ []) ≡ Refused (refusal 17) ∷ Refused (refusal 17) ∷ Refused (refusal 17) ∷ []
+  pub unknown-errors : map (λ e. translated e 3) (0 ∷ 8 ∷ (2 ^ 64 - 1) ∷ []) ≡ Refused (refusal 17) ∷ Refused (refusal 17) ∷ Refused (refusal 17) ∷ []
   pub unknown-versions : map (translated 1) (0 ∷ 4 ∷ []) ≡ Refused (refusal 17) ∷ Refused (refusal 17) ∷ []
-  -- document 01's table: a row for each error, 1 to 6; a column for each version, 1 to 3
+  -- document 01's table: a row for each error, 1 to 6, and 7 as 1; a column for each version, 1 to 3
   pub translations :
-      map (λ e. map (translated e) (1 ∷ 2 ∷ 3 ∷ [])) (1 ∷ 2 ∷ 3 ∷ 4 ∷ 5 ∷ 6 ∷ [])
+      map (λ e. map (translated e) (1 ∷ 2 ∷ 3 ∷ [])) (1 ∷ 2 ∷ 3 ∷ 4 ∷ 5 ∷ 6 ∷ 7 ∷ [])
       ≡ (Becomes (close 0) ∷ Becomes (stream 0x01) ∷ Becomes (stream 0x010e) ∷ [])
       ∷ (Becomes (close 0) ∷ Becomes (stream 0x01) ∷ Becomes (stream 0x33) ∷ [])
       ∷ (Becomes None ∷ Becomes None ∷ Becomes (connection 0x33) ∷ [])
       ∷ (Becomes None ∷ Becomes None ∷ Becomes (connection 0x33) ∷ [])
       ∷ (Becomes None ∷ Becomes None ∷ Becomes (connection 0x0108) ∷ [])
       ∷ (Becomes None ∷ Becomes None ∷ Becomes (connection 0x0109) ∷ [])
+      ∷ (Becomes (close 0) ∷ Becomes (stream 0x01) ∷ Becomes (stream 0x010e) ∷ [])
       ∷ []
   pub close-errors : map closeError (closedAs.Refused (refusal 2) ∷ closedAs.Clean ∷ closedAs.Truncated ∷ []) ≡ NoError ∷ NoError ∷ Is (record { 0 = 1 }) ∷ []
+  pub report-errors :
+      map reportError
+      (report.Delivered 0 ∷ report.Dropped 1 ∷ report.Skipped 7 0 ∷ report.Passed 7 0 ∷ report.AddressDelivered 1 0 ∷ report.Malformed 2 0 ∷ [])
+      ≡ NoError ∷ NoError ∷ NoError ∷ NoError ∷ NoError ∷ Is (record { 0 = 7 }) ∷ []
   -- a refusal, and rules 1 to 8
   pub judged-errors :
       map judgedError

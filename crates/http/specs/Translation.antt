@@ -1,5 +1,7 @@
 -- Document 01, "What each error becomes on each HTTP version".
-use Prim.Native.Nat.{ℕ, zero, suc}
+use Prim.Native.Nat.{ℕ, zero, suc, _-_}
+use mathlib.Core.Bool.{cond}
+use lib.Dec.{eqb}
 use mathlib.Core.List.{List, [], _∷_}
 use mathlib.Core.Option.{Option, none, some}
 use lib.ListN.{getElem?}
@@ -9,7 +11,7 @@ use Rattle.http.specs.declared.translation.Action.{Action}
 use Rattle.http.specs.declared.translation.Action.the-variants.{None, Close, StreamError, ConnectionError}
 use Rattle.http.specs.declared.translation.Translation.{Translation}
 use Rattle.http.specs.declared.translation.Translation.the-variants.{Refused, Becomes}
-use Rattle.http.specs.Errors.{Error, truncated, noSemantics, shortFrame, quarterTooLarge, beyondLimit, badSetting}
+use Rattle.http.specs.Errors.{Error, truncated, noSemantics, shortFrame, quarterTooLarge, beyondLimit, badSetting, malformed}
 
 -- HTTP/1.1, HTTP/2 and HTTP/3, numbered 1, 2 and 3
 pub data Version : Type 0 where
@@ -53,6 +55,10 @@ becomes beyondLimit http3 = connection 0x0108
 becomes badSetting http1 = None
 becomes badSetting http2 = None
 becomes badSetting http3 = connection 0x0109
+-- a malformed capsule is a malformed message too (RFC 9297, section 3.3): as error 1
+becomes malformed http1 = close 0
+becomes malformed http2 = stream 0x01
+becomes malformed http3 = stream 0x010e
 
 -- the n-th of a list, counted from 1
 unfoldable pub nth : {A : Type 0} → List A → ℕ → Option A
@@ -61,10 +67,14 @@ nth l (suc n) = getElem? l n
 
 -- in the order of their numbers
 abbrev pub errors : List Error
-errors = truncated ∷ noSemantics ∷ shortFrame ∷ quarterTooLarge ∷ beyondLimit ∷ badSetting ∷ []
+errors = truncated ∷ noSemantics ∷ shortFrame ∷ quarterTooLarge ∷ beyondLimit ∷ badSetting ∷ malformed ∷ []
 
 abbrev pub versions : List Version
 versions = http1 ∷ http2 ∷ http3 ∷ []
+
+-- the row of a known error in the code's table, from 0: six rows, and error 7 has that of error 1
+unfoldable pub rowOf : ℕ → ℕ
+rowOf error = cond (eqb error 7) 0 (error - 1)
 
 unfoldable pub answer : Option Error → Option Version → Translation
 answer (some e) (some v) = Becomes (becomes e v)

@@ -1,4 +1,4 @@
-// The errors of document 01, by their numbers. An error's number is any u64: whether it is known is asked where it is translated.
+// The errors of documents 01 and 02, by their numbers. An error's number is any u64: whether it is known is asked where it is translated.
 pub struct HttpError(pub u64);
 
 impl HttpError {
@@ -13,6 +13,8 @@ impl HttpError {
     pub const BEYOND_LIMIT: HttpError = HttpError(5);
 
     pub const BAD_SETTING: HttpError = HttpError(6);
+
+    pub const MALFORMED: HttpError = HttpError(7);
 }
 
 // Which error an answer is, if any.

@@ -1,8 +1,9 @@
 // Which error an answer of the reader or of judging is.
 ghost use mathlib.Core.Path.{_≡_};
-ghost use Rattle.http.specs.Ties.{closeError, judgedError};
+ghost use Rattle.http.specs.Ties.{closeError, reportError, judgedError};
 use crate::errors::ErrorOf;
 use crate::errors::HttpError;
+use capsule::opening::Report;
 use capsule::reader::CloseAnswer;
 use datagram::judge::Judged;
 
@@ -14,6 +15,20 @@ pub fn close_error(answer: CloseAnswer) -> ErrorOf
         CloseAnswer::Refused(_) => ErrorOf::NoError,
         CloseAnswer::Clean => ErrorOf::NoError,
         CloseAnswer::Truncated => ErrorOf::Is(HttpError::TRUNCATED),
+    }
+}
+
+// A malformed capsule is error 7.
+pub fn report_error(report: Report) -> ErrorOf
+    ensures { λ r. ⌜ r ≡ reportError report ⌝ }
+{
+    match report {
+        Report::Delivered(_) => ErrorOf::NoError,
+        Report::Dropped(_) => ErrorOf::NoError,
+        Report::Skipped(_, _) => ErrorOf::NoError,
+        Report::Passed(_, _) => ErrorOf::NoError,
+        Report::AddressDelivered(_, _) => ErrorOf::NoError,
+        Report::Malformed(_, _) => ErrorOf::Is(HttpError::MALFORMED),
     }
 }
 

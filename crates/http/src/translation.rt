@@ -1,6 +1,7 @@
 // What each error becomes on each HTTP version (document 01).
 ghost use mathlib.Core.Path.{_≡_};
-ghost use Rattle.http.specs.Translation.{translated};
+ghost use Prim.Native.Nat.{_≤_, _<_};
+ghost use Rattle.http.specs.Translation.{rowOf, translated};
 use refusals::Refusal;
 
 // A code of HTTP/2 (RFC 9113, section 7) or HTTP/3 (RFC 9114, section 8.1; RFC 9297, section 5.2).
@@ -35,7 +36,7 @@ pub enum Translation {
     Becomes(Action),
 }
 
-// A row for each error, 1 to 6; a column for each HTTP version: 1.1, 2, 3.
+// A row for each error, 1 to 6, and 7 has that of 1; a column for each HTTP version: 1.1, 2, 3.
 const ROWS: [[Action; 3]; 6] = [
     [
         Action::Close(ErrorCode::NO_CODE),
@@ -69,14 +70,24 @@ const ROWS: [[Action; 3]; 6] = [
     ],
 ];
 
-// An error and an HTTP version by their numbers in document 01: version 1 is HTTP/1.1.
+fn row_of(error: u64) -> u64
+    requires { ⌜ (1 ≤ error) × (error ≤ 7) ⌝ }
+    ensures { λ r. ⌜ (r ≡ rowOf error) × (r < 6) ⌝ }
+{
+    if error == 7 {
+        return 0;
+    }
+    error - 1
+}
+
+// An error and an HTTP version by their numbers in documents 01 and 02: version 1 is HTTP/1.1.
 pub fn translate(error: u64, version: u64) -> Translation
     ensures { λ r. ⌜ r ≡ translated error version ⌝ }
 {
     match error {
-        1..=6 => match version {
+        1..=7 => match version {
             1..=3 => {
-                let row = ROWS[(error - 1) as usize];
+                let row = ROWS[row_of(error) as usize];
                 let entry = row[(version - 1) as usize];
                 Translation::Becomes(entry)
             }

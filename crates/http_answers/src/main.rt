@@ -21,11 +21,12 @@ fn table() {
     row(HttpError::QUARTER_TOO_LARGE);
     row(HttpError::BEYOND_LIMIT);
     row(HttpError::BAD_SETTING);
+    row(HttpError::MALFORMED);
 }
 
 fn unknown() {
     translation(0, 3);
-    translation(7, 3);
+    translation(8, 3);
     translation(u64::MAX, 3);
     translation(1, 0);
     translation(1, 4);

@@ -1,3 +1,4 @@
+pub mod Apart
 pub mod Decimals
 pub mod Placing
 pub mod Samples

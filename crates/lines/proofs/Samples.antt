@@ -12,7 +12,7 @@ listing-of-s = refl
 
 pub other-lines : OtherLines
 unfolding text lastDigit decimalBy decimal oneNumber twoNumbers limitLine reportLine endLine
-other-lines = (refl, refl, refl, refl)
+other-lines = (refl, refl, refl, refl, refl, refl)
 
 pub placed : Placed
 unfolding text writeAt

@@ -1,10 +1,12 @@
--- What holds of the definitions. Each claim is a type here, and is proved in proofs/Decimals.antt or proofs/Samples.antt.
+-- What holds of the definitions. Each claim is a type here, and is proved in proofs/Decimals.antt, proofs/Apart.antt or proofs/Samples.antt.
 use mathlib.Core.Path.{_≡_}
 use Prim.Native.Nat.{ℕ, _≤_, _<_}
 use mathlib.Core.List.{List, [], _∷_, _++_}
 use lib.ListN.{getD}
 use Rattle.refusals.specs.Numbers.{refusal}
-use Rattle.capsule.specs.declared.opening.Report.the-variants.{Delivered, Dropped, Skipped, Passed}
+use Rattle.capsule.specs.declared.opening.Report.{Report}
+use Rattle.capsule.specs.declared.opening.Report.the-variants.{Delivered, Dropped, Skipped, Passed, AddressDelivered, Malformed}
+use Rattle.capsule.specs.declared.reader.CloseAnswer.{CloseAnswer}
 use Rattle.capsule.specs.declared.reader.CloseAnswer.the-variants.{Refused, Clean, Truncated}
 use Rattle.lines.specs.declared.Line.the-variants.{Written, NoRoom}
 use Rattle.lines.specs.Text.{text}
@@ -27,7 +29,7 @@ DigitsOnly = (n : ℕ) → AllDigits (decimal n)
 abbrev pub NoLeadingZero : Type 0
 NoLeadingZero = (decimal 0 ≡ text "0") × ((n : ℕ) → 0 < n → 48 < getD (decimal n) 0 0)
 
--- document 01's listing of stream S, whole, its other two lines, and the two that it does not have
+-- document 01's listing of stream S, whole, its other two lines, and the four that it does not have
 abbrev pub ListingOfS : Type 0
 ListingOfS =
     limitLine 1200 ++ reportLine (Delivered 3) ++ reportLine (Skipped 23 0) ++ reportLine (Skipped 64 2) ++ reportLine (Delivered 0) ++ endLine Clean
@@ -38,7 +40,23 @@ OtherLines =
     (reportLine (Dropped 1201) ≡ text "drop 1201\n")
     × (endLine Truncated ≡ text "end truncated\n")
     × (reportLine (Passed 23 5) ≡ text "pass 23 5\n")
+    × (reportLine (AddressDelivered 1 1024) ≡ text "address 1 1024\n")
+    × (reportLine (Malformed 2 0) ≡ text "malformed 2 0\n")
     × (endLine (Refused (refusal 2)) ≡ text "end refused 2\n")
+
+-- what a line can say; lines that say different things differ
+pub data Said : Type 0 where
+  limit : ℕ → Said
+  report : Report → Said
+  end : CloseAnswer → Said
+
+abbrev pub lineOf : Said → List ℕ
+lineOf (limit n) = limitLine n
+lineOf (report r) = reportLine r
+lineOf (end a) = endLine a
+
+abbrev pub LinesDiffer : Type 0
+LinesDiffer = (a b : Said) → lineOf a ≡ lineOf b → a ≡ b
 
 -- a line goes to its place, up to the output's end; where it does not fit nothing changes
 abbrev pub Placed : Type 0

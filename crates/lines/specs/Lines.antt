@@ -2,7 +2,7 @@
 use Prim.Native.Nat.{ℕ}
 use mathlib.Core.List.{List, _++_}
 use Rattle.capsule.specs.declared.opening.Report.{Report}
-use Rattle.capsule.specs.declared.opening.Report.the-variants.{Delivered, Dropped, Skipped, Passed}
+use Rattle.capsule.specs.declared.opening.Report.the-variants.{Delivered, Dropped, Skipped, Passed, AddressDelivered, Malformed}
 use Rattle.capsule.specs.declared.reader.CloseAnswer.{CloseAnswer}
 use Rattle.capsule.specs.declared.reader.CloseAnswer.the-variants.{Refused, Clean, Truncated}
 use Rattle.lines.specs.Text.{text}
@@ -20,12 +20,15 @@ twoNumbers word m n = word ++ ((decimal m ++ text " ") ++ (decimal n ++ text "\n
 unfoldable pub limitLine : ℕ → List ℕ
 limitLine n = oneNumber (text "limit ") n
 
--- the line of a capsule that has ended; `pass` is not in document 01, whose listing program is an endpoint
+-- the line of a capsule that has ended; `pass`, `address` and `malformed` are not in document 01, whose listing program is an endpoint
+-- that takes no address capsules
 unfoldable pub reportLine : Report → List ℕ
 reportLine (Delivered n) = oneNumber (text "datagram ") n
 reportLine (Dropped n) = oneNumber (text "drop ") n
 reportLine (Skipped t n) = twoNumbers (text "skip ") t n
 reportLine (Passed t n) = twoNumbers (text "pass ") t n
+reportLine (AddressDelivered t n) = twoNumbers (text "address ") t n
+reportLine (Malformed t n) = twoNumbers (text "malformed ") t n
 
 -- the last line; `end refused` is not in document 01, whose listing program comes to no refusal
 unfoldable pub endLine : CloseAnswer → List ℕ

@@ -42,6 +42,10 @@ pub fn write_report(report: Report, out: &mut [u8], place: usize) -> Line
         Report::Dropped(length) => write_one(b"drop ", length, out, place),
         Report::Skipped(ctype, length) => write_two(b"skip ", ctype, length, out, place),
         Report::Passed(ctype, length) => write_two(b"pass ", ctype, length, out, place),
+        Report::AddressDelivered(ctype, length) => {
+            write_two(b"address ", ctype, length, out, place)
+        }
+        Report::Malformed(ctype, length) => write_two(b"malformed ", ctype, length, out, place),
     }
 }
 

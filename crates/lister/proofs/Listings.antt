@@ -16,13 +16,16 @@ use Rattle.capsule.specs.declared.reader.Verdict.the-variants.{Accepted, Refuse
 use Rattle.wire.specs.Bytes.{Bytes}
 use Rattle.wire.specs.Partial.{isPartial, starts}
 use Rattle.wire.proofs.Numbers.{bytes-take, bytes-drop}
+use Rattle.capsule.specs.Kinds.{optedBy, opted}
 use Rattle.capsule.specs.Calls.{Lent, lentVerdict}
 use Rattle.capsule.specs.declared.opening.Role.the-variants.{Endpoint}
 use Rattle.capsule.specs.declared.reader.Opened.the-variants as opened
 use Rattle.capsule.specs.Reader.{opening, fresh, isOpening, openOf, isMakeablePhase, isMakeable, verdictOf, planOf, Feeding, feeding, fedBy, takeOf, feedOf}
 use Rattle.capsule.proofs.Planning.{zero-one, plan-fits}
-use Rattle.capsule.proofs.Verdicts.{accepts, accepted-makeable, unmakeable, after-close, by-lengths, endpoint-lent, feed-refused, feed-taken}
+use Rattle.capsule.proofs.Verdicts.{accepts, accepted-makeable, unmakeable, after-close, by-lengths, endpoint-off, feed-refused, feed-taken}
+use Rattle.capsule_laws.specs.Before as before
 use Rattle.capsule_laws.proofs.Makeable.{stays-makeable, progress}
+use Rattle.capsule_laws.proofs.NotOpted.{as-before}
 use Rattle.lines.specs.Lines.{longest}
 use Rattle.lines.proofs.Placing.{sets-then}
 use Rattle.lister.specs.declared.Listing.{Listing}
@@ -32,31 +35,42 @@ use Rattle.lister.specs.Listing.{listingOf, lineIn, Noted, Lists, none, 
 module _ (r : Reader) (p : List ℕ) (b : Lent) (consumed written : ℕ) (e : Ended) where
   pub took-within : feedOf r p b .answer ≡ fedAs.Took consumed written e → consumed ≤ length p
   unfolding takeOf fedBy
-  took-within h = go (verdictOf r (length p) (length (b .gathering)) (length (b .output))) refl
+  took-within h = go (verdictOf r (length p) (length (b .gathering)) (length (b .addresses)) (length (b .output))) refl
     where
-      go : (v : Verdict) → verdictOf r (length p) (length (b .gathering)) (length (b .output)) ≡ v → consumed ≤ length p
+      go : (v : Verdict) → verdictOf r (length p) (length (b .gathering)) (length (b .addresses)) (length (b .output)) ≡ v → consumed ≤ length p
       go (Refused why) q = zero-one (cc (ap (λ (f : Feeding). f .answer) (feed-refused r p b why q)))
       go Accepted q =
           let plan = planOf (r .opening) p (r .phase) in
           let answer : takeOf r p b .answer ≡ fedAs.Took consumed written e = ap (λ (f : Feeding). f .answer) (feed-taken r p b q) ∙ h in
           let isConsumed : plan .consumed ≡ consumed = cc in
-          rw (← isConsumed) (plan-fits (r .opening) p (r .phase) (accepts r (length p) (length (b .gathering)) (length (b .output)) q .phase) .within)
+          rw (← isConsumed) (plan-fits (r .opening) p (r .phase) (accepts r (length p) (length (b .gathering)) (length (b .addresses)) (length (b .output)) q .phase) .within)
 
 -- ---- a reader that refuses no piece
 
 not-accepted {ℓ} : {X : Type ℓ} {v : Verdict} {why : Refusal} → v ≡ Accepted → Refused why ≡ v → X
 not-accepted p q = zero-one (cc)
 
--- what was accepted stands by the lengths
-accepted-lent : (r : Reader) (piece gathering output : ℕ) → verdictOf r piece gathering output ≡ Accepted → lentVerdict (r .opening) piece gathering output ≡ Accepted
-accepted-lent r piece gathering output e = go (isMakeable r) refl (r .finished) refl
+-- what was accepted is not finished, and stands by the lengths
+accepted-by : (r : Reader) (piece gathering addresses output : ℕ) → verdictOf r piece gathering addresses output ≡ Accepted
+    → (r .finished ≡ false) × (lentVerdict (r .opening) piece gathering addresses output ≡ Accepted)
+accepted-by r piece gathering addresses output e = go (isMakeable r) refl (r .finished) refl
   where
-    go : (m : Bool) → isMakeable r ≡ m → (f : Bool) → r .finished ≡ f → lentVerdict (r .opening) piece gathering output ≡ Accepted
-    go false m f g = not-accepted e (unmakeable r piece gathering output m)
-    go true m true f = not-accepted e (after-close r piece gathering output m f)
-    go true m false f = by-lengths r piece gathering output m f (lentVerdict (r .opening) piece gathering output) refl ∙ e
+    go : (m : Bool) → isMakeable r ≡ m → (f : Bool) → r .finished ≡ f → (r .finished ≡ false) × (lentVerdict (r .opening) piece gathering addresses output ≡ Accepted)
+    go false m f g = not-accepted e (unmakeable r piece gathering addresses output m)
+    go true m true f = not-accepted e (after-close r piece gathering addresses output m f)
+    go true m false f = (f, by-lengths r piece gathering addresses output m f (lentVerdict (r .opening) piece gathering addresses output) refl ∙ e)
 
-module _ (r : Reader) (p : List ℕ) (b : Lent) (h : Ready r (length (b .gathering)) (length (b .output))) where
+-- a reader that did not opt in is finished by no feeding
+stays-open : (r : Reader) (p : List ℕ) (b : Lent) → opted (r .opening) ≡ false → r .finished ≡ false → feedOf r p b .reader .finished ≡ false
+unfolding before.feedOf
+stays-open r p b e h =
+    ap (λ (f : Feeding). f .reader .finished) (as-before r p b e) ∙ go (before.verdictOf r (length p) (length (b .gathering)) (length (b .output)))
+  where
+    go : (v : Verdict) → before.feedBy r p (b .gathering) (b .output) v .reader .finished ≡ false
+    go (Refused why) = unfold before.feedBy in h
+    go Accepted = unfold before.feedBy before.takeOf before.fedBy in refl
+
+module _ (r : Reader) (p : List ℕ) (b : Lent) (h : Ready r (length (b .gathering)) (length (b .addresses)) (length (b .output))) where
   taken : takeOf r p b ≡ feedOf r p b
   taken = feed-taken r p b (h .accepts (length p))
 
@@ -64,37 +78,39 @@ module _ (r : Reader) (p : List ℕ) (b : Lent) (h : Ready r (length (b .gatheri
   unfolding takeOf fedBy
   never-refused e = zero-one (cc (ap (λ (f : Feeding). f .answer) taken ∙ e))
 
-  pub ready-again : Bytes p → Ready (feedOf r p b .reader) (length (b .gathering)) (length (b .output))
+  pub ready-again : Bytes p → Ready (feedOf r p b .reader) (length (b .gathering)) (length (b .addresses)) (length (b .output))
   unfolding takeOf fedBy
   ready-again k =
       let s = feedOf r p b .reader in
       let isS : takeOf r p b .reader ≡ s = ap (λ (f : Feeding). f .reader) taken in
-      let open-still : s .finished ≡ false = sym (ap (λ (x : Reader). x .finished) isS) in
+      let open-still : s .finished ≡ false = stays-open r p b (h .not-opted) (accepted-by r 0 (length (b .gathering)) (length (b .addresses)) (length (b .output)) (h .accepts 0) .0) in
       let same-opening : r .opening ≡ s .opening = ap (λ (x : Reader). x .opening) isS in
-      let made = stays-makeable r p b k (accepted-makeable r 0 (length (b .gathering)) (length (b .output)) (h .accepts 0)) in
+      let made = stays-makeable r p b k (accepted-makeable r 0 (length (b .gathering)) (length (b .addresses)) (length (b .output)) (h .accepts 0)) in
       record {
         accepts = λ piece.
-            sym (by-lengths s piece (length (b .gathering)) (length (b .output)) made open-still Accepted
-            (sym (rw (← same-opening) (accepted-lent r piece (length (b .gathering)) (length (b .output)) (h .accepts piece)))));
+            sym (by-lengths s piece (length (b .gathering)) (length (b .addresses)) (length (b .output)) made open-still Accepted
+            (sym (rw (← same-opening) (accepted-by r piece (length (b .gathering)) (length (b .addresses)) (length (b .output)) (h .accepts piece) .1))));
+        not-opted = rw (← same-opening) (h .not-opted);
       }
 
 -- the reader that was opened
-pub opened-ready : (r : Reader) (gathering output : ℕ) → 1200 ≤ gathering → openOf Endpoint 1200 false ≡ opened.Ready r → Ready r gathering output
+pub opened-ready : (r : Reader) (gathering addresses output : ℕ) → 1200 ≤ gathering → openOf Endpoint 1200 false false ≡ opened.Ready r → Ready r gathering addresses output
 unfolding openOf isOpening
-opened-ready r gathering output h e =
-    let op = opening Endpoint 1200 false in
-    let isR : fresh (opening Endpoint 1200 false) ≡ r = cc in
+opened-ready r gathering addresses output h e =
+    let op = opening Endpoint 1200 false false in
+    let isR : fresh (opening Endpoint 1200 false false) ≡ r = cc in
     rw (← isR) (record {
       accepts = λ piece.
-          sym (by-lengths (fresh op) piece gathering output (unfold isMakeable isMakeablePhase isPartial starts in refl) refl Accepted (endpoint-lent op piece gathering output h refl));
+          sym (by-lengths (fresh op) piece gathering addresses output (unfold isMakeable isMakeablePhase isPartial starts in refl) refl Accepted (endpoint-off op piece gathering addresses output h refl refl));
+      not-opted = unfold opted optedBy in refl;
     })
 
 -- ---- the state between two steps
 
-pub moved : (l : Listing) {a b c d a′ b′ c′ d′ : ℕ} → Within l a b c d → a′ ≡ a → b′ ≡ b → c′ ≡ c → d′ ≡ d → Within l a′ b′ c′ d′
-moved l w ea eb ec ed = rw (ea, eb, ec, ed) w
+pub moved : (l : Listing) {i g a o b i′ g′ a′ o′ b′ : ℕ} → Within l i g a o b → i′ ≡ i → g′ ≡ g → a′ ≡ a → o′ ≡ o → b′ ≡ b → Within l i′ g′ a′ o′ b′
+moved l w ei eg ea eo eb = rw (ei, eg, ea, eo, eb) w
 
-pub read-ready : (l : Listing) (r : Reader) {i a b c d : ℕ} → Read l r i d → i ≤ a → Ready r b c → Within l a b c d
+pub read-ready : (l : Listing) (r : Reader) {read i g a o b : ℕ} → Read l r read b → read ≤ i → Ready r g a o → Within l i g a o b
 read-ready l r w h k =
     let e = w .have in
     record { used = w .used; have = omega arith; held = w .held; ready = rw (w .same) k }
@@ -112,13 +128,14 @@ pub record Standing (have : ℕ) (r₀ : Reader) (from held₀ : ℕ) (input : L
   pub room : held ≤ length block₀
   pub same : length block ≡ length block₀
   pub gathering : length (b .gathering) ≡ length (b₀ .gathering)
+  pub addresses : length (b .addresses) ≡ length (b₀ .addresses)
   pub output : length (b .output) ≡ length (b₀ .output)
-  pub ready : Ready r (length (b .gathering)) (length (b .output))
+  pub ready : Ready r (length (b .gathering)) (length (b .addresses)) (length (b .output))
 
-pub stands-first : (l : Listing) (input : List ℕ) (b : Lent) (block : List ℕ) → Within l (length input) (length (b .gathering)) (length (b .output)) (length block)
+pub stands-first : (l : Listing) (input : List ℕ) (b : Lent) (block : List ℕ) → Within l (length input) (length (b .gathering)) (length (b .addresses)) (length (b .output)) (length block)
     → Standing (l .have) (l .reader) (l .used) (l .held) input b block (l .reader) b (l .used) (l .held) block
 stands-first l input b block w =
-    record { text = []; lists = none; lines = refl; waits = omega arith; left = w .used; read = w .have; room = w .held; same = refl; gathering = refl; output = refl; ready = w .ready }
+    record { text = []; lists = none; lines = refl; waits = omega arith; left = w .used; read = w .have; room = w .held; same = refl; gathering = refl; addresses = refl; output = refl; ready = w .ready }
 
 module _ (l : Listing) {input : List ℕ} {b₀ : Lent} {block₀ : List ℕ} {r : Reader} {b : Lent} {used held : ℕ} {block : List ℕ}
     (s : Standing (l .have) (l .reader) (l .used) (l .held) input b₀ block₀ r b used held block) where
@@ -133,7 +150,7 @@ module _ (l : Listing) {input : List ℕ} {b₀ : Lent} {block₀ : List ℕ} {r
         waits = s .waits;
         goes-on = refl;
         used-up = λ h. (let u = up h in omega arith);
-        within = record { used = left; have = s .read; held = s .room; ready = rw (← s .gathering, ← s .output) isReady };
+        within = record { used = left; have = s .read; held = s .room; ready = rw (← s .gathering, ← s .addresses, ← s .output) isReady };
       })
 
   -- the lines so far, and one more
@@ -169,10 +186,10 @@ module _ (l : Listing) {input : List ℕ} {b₀ : Lent} {block₀ : List ℕ} {r
     used-some h m consumed written e isA =
         progress r piece b consumed written e (bytes-take (l .have - used) (drop used input) (bytes-drop used input h)) (omega (arith, length-piece)) (answered ∙ isA)
 
-    pub stands-took : Bytes input → length (d .gathering) ≡ length (b .gathering) → length (d .output) ≡ length (b .output)
+    pub stands-took : Bytes input → length (d .gathering) ≡ length (b .gathering) → length (d .addresses) ≡ length (b .addresses) → length (d .output) ≡ length (b .output)
         → (consumed written : ℕ) (e : Ended) → a ≡ fedAs.Took consumed written e → (waits : ℕ) (after : List ℕ) → Noted (lineIn e) block held waits after
         → Standing (l .have) (l .reader) (l .used) (l .held) input b₀ block₀ t d (used + consumed) waits after
-    stands-took h lg lo consumed written e isA waits after n =
+    stands-took h lg la lo consumed written e isA waits after n =
         let x = behind (lineIn e) waits after n in
         let y = s .same in
         let isT : feedOf r piece b .reader ≡ t = ap (λ (f : Feeding). f .reader) (sym fed) in
@@ -187,6 +204,7 @@ module _ (l : Listing) {input : List ℕ} {b₀ : Lent} {block₀ : List ℕ} {r
           room = omega (arith, n .within);
           same = ap length (x .0) ∙ length-sets block₀ (l .held) (s .text ++ lineIn e);
           gathering = lg ∙ s .gathering;
+          addresses = la ∙ s .addresses;
           output = lo ∙ s .output;
-          ready = rw (lg, lo, ← isT) again;
+          ready = rw (lg, la, lo, ← isT) again;
         }

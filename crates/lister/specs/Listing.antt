@@ -1,7 +1,7 @@
 -- A listing of bytes that were read: contracts inside the crate.
 use mathlib.Core.Path.{_≡_}
 use Prim.Native.Nat.{ℕ, _+_, _-_, _^_, _≤_, _<_}
-use mathlib.Core.Bool.{Bool, true}
+use mathlib.Core.Bool.{Bool, true, false}
 use mathlib.Core.List.{List, [], _++_}
 use lib.ListN.{length, take, drop}
 use lib.Seq.{sets}
@@ -10,6 +10,7 @@ use Rattle.capsule.specs.declared.reader.Ended.{Ended}
 use Rattle.capsule.specs.declared.reader.Ended.the-variants.{Nothing, Capsule}
 use Rattle.capsule.specs.declared.reader.FeedAnswer.the-variants as fedAs
 use Rattle.capsule.specs.declared.reader.Verdict.the-variants.{Accepted}
+use Rattle.capsule.specs.Kinds.{opted}
 use Rattle.capsule.specs.Calls.{Lent}
 use Rattle.capsule.specs.Reader.{verdictOf, feeding, feedOf}
 use Rattle.lines.specs.declared.Line.{Line}
@@ -49,9 +50,10 @@ pub data Lists (input : List ℕ) (have : ℕ) (r₀ : Reader) (b₀ : Lent) (fr
       → feeding s (fedAs.Took consumed written e) d ≡ feedOf r (take (have - used) (drop used input)) b
       → Lists input have r₀ b₀ from s d (used + consumed) (text ++ lineIn e)
 
--- a reader that refuses no piece with buffers of these lengths
-pub record Ready (r : Reader) (gathering output : ℕ) : Type 0 where
-  pub accepts : (piece : ℕ) → verdictOf r piece gathering output ≡ Accepted
+-- a reader that refuses no piece with buffers of these lengths, and that no capsule finishes
+pub record Ready (r : Reader) (gathering addresses output : ℕ) : Type 0 where
+  pub accepts : (piece : ℕ) → verdictOf r piece gathering addresses output ≡ Accepted
+  pub not-opted : opted (r .opening) ≡ false
 
 -- the state has this reader, and is within its blocks
 pub record Read (l : Listing) (r : Reader) (input block : ℕ) : Type 0 where
@@ -61,11 +63,11 @@ pub record Read (l : Listing) (r : Reader) (input block : ℕ) : Type 0 where
   pub held : l .held ≤ block
 
 -- the state is within its blocks, and its reader is ready
-pub record Within (l : Listing) (input gathering output block : ℕ) : Type 0 where
+pub record Within (l : Listing) (input gathering addresses output block : ℕ) : Type 0 where
   pub used : l .used ≤ l .have
   pub have : l .have ≤ input
   pub held : l .held ≤ block
-  pub ready : Ready (l .reader) gathering output
+  pub ready : Ready (l .reader) gathering addresses output
 
 -- what was read is listed: the lines stand in the block behind those that waited, and no other byte of it changes; all of it is used up,
 -- unless a line might not fit any more
@@ -76,4 +78,4 @@ pub record Listed (l : Listing) (input : List ℕ) (b : Lent) (block : List ℕ)
   pub waits : r .held ≡ l .held + length text
   pub goes-on : r .going ≡ true
   pub used-up : r .held + longest ≤ length block → r .used ≡ l .have
-  pub within : Within r (length input) (length (b .gathering)) (length (b .output)) (length block)
+  pub within : Within r (length input) (length (b .gathering)) (length (b .addresses)) (length (b .output)) (length block)

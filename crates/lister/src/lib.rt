@@ -97,18 +97,19 @@ fn list_read(
     l: Listing,
     input: &[u8],
     gathering: &mut [u8],
+    addresses: &mut [u8],
     output: &mut [u8],
     block: &mut [u8],
 ) -> Listing
-    requires { ⌜ Within l (length (now input)) (length (now gathering)) (length (now output)) (length (now block)) ⌝ }
-    ensures { λ r. ⌜ Listed l (now (input .entry)) (lent (now (gathering .entry)) (now (output .entry))) (now (block .entry)) r (lent (now (gathering .exit)) (now (output .exit))) (now (block .exit)) ⌝ }
+    requires { ⌜ Within l (length (now input)) (length (now gathering)) (length (now addresses)) (length (now output)) (length (now block)) ⌝ }
+    ensures { λ r. ⌜ Listed l (now (input .entry)) (lent (now (gathering .entry)) (now (addresses .entry)) (now (output .entry))) (now (block .entry)) r (lent (now (gathering .exit)) (now (addresses .exit)) (now (output .exit))) (now (block .exit)) ⌝ }
 {
     let have = l.have;
     let mut reader = l.reader;
     let mut used = l.used;
     let mut held = l.held;
     while is_due(used, have, held, block.len()) {
-        let fed = reader.feed(&input[used..have], gathering, output);
+        let fed = reader.feed(&input[used..have], gathering, addresses, output);
         let answer = fed.answer;
         reader = fed.reader;
         match answer {
@@ -169,11 +170,12 @@ fn step(
     l: Listing,
     input: &mut [u8],
     gathering: &mut [u8],
+    addresses: &mut [u8],
     output: &mut [u8],
     block: &mut [u8],
 ) -> Listing
-    requires { ⌜ Within l (length (now input)) (length (now gathering)) (length (now output)) (length (now block)) ⌝ }
-    ensures { λ r. ⌜ Within r (length (now (input .exit))) (length (now (gathering .exit))) (length (now (output .exit))) (length (now (block .exit))) ⌝ }
+    requires { ⌜ Within l (length (now input)) (length (now gathering)) (length (now addresses)) (length (now output)) (length (now block)) ⌝ }
+    ensures { λ r. ⌜ Within r (length (now (input .exit))) (length (now (gathering .exit))) (length (now (addresses .exit))) (length (now (output .exit))) (length (now (block .exit))) ⌝ }
 {
     let held = l.held;
     if block.len() - held < LONGEST {
@@ -182,7 +184,7 @@ fn step(
         return Listing::new(reader, l.have, l.used, 0, going);
     }
     if l.used < l.have {
-        return list_read(l, input, gathering, output, block);
+        return list_read(l, input, gathering, addresses, output, block);
     }
     read_more(fd, name, l, input, block)
 }
@@ -203,15 +205,16 @@ fn list_all(
     reader: Reader,
     input: &mut [u8],
     gathering: &mut [u8],
+    addresses: &mut [u8],
     output: &mut [u8],
     block: &mut [u8],
 )
-    requires { ⌜ (longest ≤ length (now block)) × Ready reader (length (now gathering)) (length (now output)) ⌝ }
+    requires { ⌜ (longest ≤ length (now block)) × Ready reader (length (now gathering)) (length (now addresses)) (length (now output)) ⌝ }
 {
     let mut l = start(reader, block);
     let mut turns = u64::MAX;
     while turns > 0 && l.going {
-        l = step(fd, name, l, input, gathering, output, block);
+        l = step(fd, name, l, input, gathering, addresses, output, block);
         turns -= 1;
     }
     write_held(block, l.held);
@@ -222,9 +225,10 @@ fn list(fd: i32, name: &[u8]) {
     let mut input = io::large_buffer();
     let mut block = io::large_buffer();
     let mut gathering = [0u8; 1200];
-    // an endpoint writes nothing to it
-    let mut output = [0u8; 1];
-    let opened = Reader::open(Role::Endpoint, LIMIT, false);
+    // of an endpoint that did not opt in neither is asked for
+    let mut addresses = [0u8; 0];
+    let mut output = [0u8; 0];
+    let opened = Reader::open(Role::Endpoint, LIMIT, false, false);
     match opened {
         Opened::Refused(_) => {
             io::write_all(STDERR_FILENO, b"the limit is refused\n");
@@ -236,6 +240,7 @@ fn list(fd: i32, name: &[u8]) {
                 reader,
                 &mut input,
                 &mut gathering,
+                &mut addresses,
                 &mut output,
                 &mut block,
             );

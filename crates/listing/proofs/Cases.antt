@@ -2,12 +2,12 @@
 use mathlib.Core.Path.{refl}
 use Rattle.wire.specs.Bytes.{numFrom, num}
 use Rattle.wire.specs.Varint.{sizeOf, valueOf, readVarint}
-use Rattle.capsule.specs.Grammar.{front, capsuleAt, cut, parts}
+use Rattle.capsule.specs.Grammar.{frontBy, capsuleAt, cutBy, partsBy}
 use Rattle.listing.specs.Listing.{headerBytes, endingOf, listingOf}
 use Rattle.listing.specs.Cases.{Cases}
 
 pub cases : Cases
-unfolding listingOf headerBytes endingOf parts cut front capsuleAt readVarint sizeOf valueOf num numFrom
+unfolding listingOf headerBytes endingOf partsBy cutBy frontBy capsuleAt readVarint sizeOf valueOf num numFrom
 cases = record {
   empty = refl;
   whole-stream = refl;

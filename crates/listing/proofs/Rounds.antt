@@ -10,7 +10,7 @@ use Rattle.refusals.specs.Numbers.{bufferTooLong}
 use Rattle.wire.specs.declared.varint.Varint.the-variants.{Incomplete, Whole}
 use Rattle.wire.specs.Varint.{readVarint}
 use Rattle.wire.proofs.Reading.{reads}
-use Rattle.capsule.specs.Grammar.{Stage, inType, inLength, inValue, part, whole, capsuleAt, parts}
+use Rattle.capsule.specs.Grammar.{plain, Stage, inType, inLength, inValue, part, whole, capsuleAt, parts}
 use Rattle.capsule_laws.proofs.Grammar.{Sees, seesType, seesLength, seesValue, seesWhole, complete, next, parts-is, parts-cut, parts-part, parts-nil}
 use Rattle.listing.specs.declared.Ending.the-variants.{Clean, Truncated}
 use Rattle.listing.specs.declared.Listed.the-variants.{Refused, Counted}
@@ -25,9 +25,9 @@ module _ (capsules headers : ℕ) where
   nothing-left =
       let a : capsules + 0 ≡ capsules = omega arith in
       let b : headers + 0 ≡ headers = omega arith in
-      rw (parts-nil, a, b)
+      rw (parts-nil plain, a, b)
 
-  unfinished : (l : List ℕ) (x : Stage) → 0 < length l → Sees l (part x) → Counted capsules headers Truncated ≡ onwards capsules headers l
+  unfinished : (l : List ℕ) (x : Stage) → 0 < length l → Sees plain l (part x) → Counted capsules headers Truncated ≡ onwards capsules headers l
   unfolding onwards headerBytes endingOf
   unfinished [] x h v = absurd (let z : ⊥ = omega arith in z)
   unfinished (b ∷ l) x h v =
@@ -35,7 +35,7 @@ module _ (capsules headers : ℕ) where
       let c : headers + 0 ≡ headers = omega arith in
       rw (parts-part (b ∷ l) x v, a, c)
 
-  finished : (l : List ℕ) (t n head : ℕ) → Sees l (whole t n head) → onwards (capsules + 1) (headers + head) (drop (head + n) l) ≡ onwards capsules headers l
+  finished : (l : List ℕ) (t n head : ℕ) → Sees plain l (whole t n head) → onwards (capsules + 1) (headers + head) (drop (head + n) l) ≡ onwards capsules headers l
   unfolding onwards headerBytes capsuleAt
   finished l t n head v =
       let w = complete v in
@@ -44,7 +44,7 @@ module _ (capsules headers : ℕ) where
       let value : length (take n (drop head l)) ≡ n = length-take-le n (drop head l) (omega (arith, w .fits, length-drop head l)) in
       let a : capsules + suc (length rest) ≡ capsules + 1 + length rest = omega arith in
       let b : headers + (head + n - n + headerBytes rest) ≡ headers + head + headerBytes rest = omega arith in
-      rw (parts-is (next v (parts-cut (drop (head + n) l))), bytes, value, a, b)
+      rw (parts-is (next v (parts-cut plain (drop (head + n) l))), bytes, value, a, b)
 
 -- ---- at a place of the buffer
 

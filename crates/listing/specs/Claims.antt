@@ -27,7 +27,7 @@ pub record Agreeing (op : Opening) (cs : List Call) : Type 0 where
   pub lists : listingOf (run bookCall (newBook op) cs .0 .stream) ≡ Counted (length (reports (run bookCall (newBook op) cs .1))) (headerBytes (parts (run bookCall (newBook op) cs .0 .stream) .capsules)) ending
   pub closes : bookCall (run bookCall (newBook op) cs .0) close .1 ≡ closed (asClosed ending)
 
--- "must agree with the reader": for every role, limit and draft setting, and however the stream was cut
+-- "must agree with the reader": for every opening, and however the stream was cut
 abbrev pub AgreesWithReader : Type 0
 AgreesWithReader =
     (op : Opening) (cs : List Call)

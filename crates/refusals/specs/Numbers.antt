@@ -1,4 +1,4 @@
--- Document 01, "Refusal numbers".
+-- Document 01, "Refusal numbers"; 18 and 26 are document 02's (request 4).
 use Prim.Native.Nat.{ℕ}
 use Rattle.refusals.specs.declared.Refusal.{Refusal}
 
@@ -55,3 +55,9 @@ bufferTooLong = refusal 16
 
 abbrev pub unknownErrorOrVersion : Refusal
 unknownErrorOrVersion = refusal 17
+
+abbrev pub addressesTooShort : Refusal
+addressesTooShort = refusal 18
+
+abbrev pub malformedToWrite : Refusal
+malformedToWrite = refusal 26

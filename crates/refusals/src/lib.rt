@@ -1,4 +1,4 @@
-// Refusals, by their numbers in document 01.
+// Refusals, by their numbers in documents 01 and 02.
 
 // A refused call changed nothing. The number says why.
 pub struct Refusal(pub u8);
@@ -37,4 +37,8 @@ impl Refusal {
     pub const BUFFER_TOO_LONG: Refusal = Refusal(16);
 
     pub const UNKNOWN_ERROR_OR_VERSION: Refusal = Refusal(17);
+
+    pub const ADDRESSES_TOO_SHORT: Refusal = Refusal(18);
+
+    pub const MALFORMED_TO_WRITE: Refusal = Refusal(26);
 }

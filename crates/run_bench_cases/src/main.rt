@@ -12,10 +12,11 @@ use show_reader::refused;
 // One feeding, shown.
 fn feed(reader: Reader, piece: &[u8]) -> Fed {
     let mut gathering = [0u8; 1200];
+    let mut addresses = [0u8; 0];
     let mut output = [0u8; 64];
-    let fed = reader.feed(piece, &mut gathering, &mut output);
+    let fed = reader.feed(piece, &mut gathering, &mut addresses, &mut output);
     let answer = fed.answer;
-    feeding(answer, &gathering, &output, b"\n");
+    feeding(answer, &gathering, &addresses, &output, b"\n");
     fed
 }
 
@@ -48,7 +49,7 @@ fn read(reader: Reader, stream: &[u8]) {
 fn case(name: &[u8], role: Role, limit: u64, draft: bool, stream: &[u8]) {
     word(b"-- ");
     word(name);
-    let opened = Reader::open(role, limit, draft);
+    let opened = Reader::open(role, limit, draft, false);
     match opened {
         Opened::Refused(why) => {
             word(b"\n");

@@ -15,16 +15,16 @@ pub fn refused(why: Refusal) {
     number(why.0 as u64);
 }
 
-// A capsule of an unknown type: what became of it, its type and its length.
-fn unknown(became: &[u8], ctype: u64, length: u64) {
+// What became of a capsule that is not DATAGRAM, its type and its length.
+fn other(became: &[u8], ctype: u64, length: u64) {
     word(became);
     number(ctype);
     word(b" ");
     number(length);
 }
 
-// A report. A delivered payload stands at the front of the gathering buffer.
-pub fn report(r: Report, gathering: &[u8]) {
+// A report. A delivered payload stands at the front of the gathering buffer, a delivered address value at the front of the second one.
+pub fn report(r: Report, gathering: &[u8], addresses: &[u8]) {
     match r {
         Report::Delivered(n) => {
             word(b"delivered ");
@@ -38,16 +38,31 @@ pub fn report(r: Report, gathering: &[u8]) {
             number(n);
         }
         Report::Skipped(t, n) => {
-            unknown(b"skipped ", t, n);
+            other(b"skipped ", t, n);
         }
         Report::Passed(t, n) => {
-            unknown(b"passed ", t, n);
+            other(b"passed ", t, n);
+        }
+        Report::AddressDelivered(t, n) => {
+            other(b"address ", t, n);
+            word(b" (");
+            first(addresses, n as usize);
+            word(b")");
+        }
+        Report::Malformed(t, n) => {
+            other(b"malformed ", t, n);
         }
     }
 }
 
 // What a feeding says, each answer behind a word: a refusal, what it wrote, and what ended.
-pub fn feeding(answer: FeedAnswer, gathering: &[u8], output: &[u8], before: &[u8]) {
+pub fn feeding(
+    answer: FeedAnswer,
+    gathering: &[u8],
+    addresses: &[u8],
+    output: &[u8],
+    before: &[u8],
+) {
     match answer {
         FeedAnswer::Refused(why) => {
             word(before);
@@ -67,7 +82,7 @@ pub fn feeding(answer: FeedAnswer, gathering: &[u8], output: &[u8], before: &[u8
                 Ended::Nothing => {}
                 Ended::Capsule(r) => {
                     word(before);
-                    report(r, gathering);
+                    report(r, gathering, addresses);
                 }
             }
         }

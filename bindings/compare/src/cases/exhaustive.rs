@@ -1,5 +1,10 @@
 //! Small inputs, all of them.
 
+use independent::addresses::{Address, Ip, Range};
+use independent::captures::{push_address, push_range, Form};
+use independent::Random;
+
+use super::addresses::{address_entry, range_entry};
 use super::Outcome;
 use crate::call::{Bytes, Rows};
 use crate::{Call, Comparison, Lent};
@@ -9,14 +14,17 @@ pub fn exhaustive(comparison: &mut Comparison) -> Outcome {
     streams(comparison)?;
     numbers(comparison)?;
     tables(comparison)?;
-    messages(comparison)
+    messages(comparison)?;
+    prefixes(comparison)?;
+    ranges(comparison)
 }
 
 /// Bytes with which fields of every size begin, small types and lengths.
 const BYTES: [u8; 8] = [0x00, 0x01, 0x02, 0x17, 0x40, 0x41, 0x80, 0xff];
 const LONGEST: u32 = 5;
 
-/// Every stream of up to five of these bytes, in each role with limits 0 and 1, whole and byte by byte.
+/// Every stream of up to five of these bytes, in each role with limits 0 and 1, and as an endpoint that takes address
+/// capsules, whole and byte by byte. An intermediary that opted in does as others do.
 fn streams(comparison: &mut Comparison) -> Outcome {
     for length in 0..=LONGEST {
         for number in 0..BYTES.len().pow(length) {
@@ -25,9 +33,10 @@ fn streams(comparison: &mut Comparison) -> Outcome {
             comparison.make(Call::List {
                 bytes: Bytes(stream.clone()),
             })?;
-            for (role, limit) in [(0, 0), (0, 1), (1, 0), (1, 1)] {
-                read(comparison, role, limit, &stream, stream.len().max(1))?;
-                read(comparison, role, limit, &stream, 1)?;
+            let openings = [[0, 0, 0], [0, 1, 0], [1, 0, 0], [1, 1, 1], [0, 1, 1]];
+            for opening in openings {
+                read(comparison, opening, &stream, stream.len().max(1))?;
+                read(comparison, opening, &stream, 1)?;
             }
         }
     }
@@ -36,8 +45,7 @@ fn streams(comparison: &mut Comparison) -> Outcome {
 
 fn read(
     comparison: &mut Comparison,
-    role: u64,
-    limit: u64,
+    [role, limit, addresses]: [u64; 3],
     stream: &[u8],
     longest: usize,
 ) -> Outcome {
@@ -46,17 +54,32 @@ fn read(
         role,
         limit,
         draft: 0,
+        addresses,
     })?;
     let mut words = *call.words().expect("an opening has words");
+    let length = match (role, addresses) {
+        (0, 1) => 1_024,
+        _ => 0,
+    };
+    let mut second = Lent::new(&vec![0x99; length], 0x88);
     for mut piece in stream.chunks(longest) {
         while !piece.is_empty() {
             let (answer, call) = comparison.make(Call::ReaderFeed {
                 words,
                 piece: Bytes(piece.to_vec()),
                 gathering: Lent::new(&[0xee, 0xdd], 0xcc),
+                addresses: second,
                 output: Lent::new(&vec![0xbb; piece.len() + 8], 0xaa),
             })?;
             words = *call.words().expect("a feeding has words");
+            let Call::ReaderFeed { addresses, .. } = call else {
+                unreachable!("it is the call that was made");
+            };
+            second = addresses;
+            // A malformed capsule has finished the reader.
+            if answer[0] != 0 {
+                break;
+            }
             piece = &piece[answer[1] as usize..];
         }
     }
@@ -191,5 +214,91 @@ fn messages(comparison: &mut Comparison) -> Outcome {
             })?;
         }
     }
+    Ok(())
+}
+
+/// An address of either version with each bit alone, with none and with all, under every prefix length around its bits.
+fn prefixes(comparison: &mut Comparison) -> Outcome {
+    let random = &mut Random::new(0);
+    for bits in [32, 128] {
+        let all = u128::MAX >> (128 - bits);
+        let numbers = (0..bits).flat_map(|bit| [1 << bit, all & !((1 << bit) - 1)]);
+        for number in numbers.chain([0]) {
+            for prefix_length in (0..=bits as u8 + 2).chain([255]) {
+                let address = Address {
+                    request_id: u64::from(prefix_length % 3),
+                    ip: match bits {
+                        32 => Ip::V4(number as u32),
+                        _ => Ip::V6(number),
+                    },
+                    prefix_length,
+                };
+                let mut value = Vec::new();
+                push_address(&mut value, random, Form::Shortest, &address);
+                for capsule_type in [1, 2] {
+                    comparison.make(Call::AddressValueGood {
+                        capsule_type,
+                        value: Bytes(value.clone()),
+                    })?;
+                }
+                comparison.make(Call::WriteAddressAssign {
+                    addresses: Bytes(address_entry(&address, 0x77)),
+                    out: Lent::new(&[0xbb; 24], 0xaa),
+                    place: 1,
+                })?;
+            }
+        }
+    }
+    Ok(())
+}
+
+/// Every three ranges with addresses 0 to 2 and protocols 0 to 2 of both versions, checked; every two, written and split.
+fn ranges(comparison: &mut Comparison) -> Outcome {
+    let mut ranges = Vec::new();
+    for number in 0..54 {
+        let [start, end] = [number / 2 % 3, number / 6 % 3];
+        let ip = |address: u32| match number % 2 {
+            0 => Ip::V4(address),
+            _ => Ip::V6(address.into()),
+        };
+        ranges.push(Range {
+            start: ip(start),
+            end: ip(end),
+            ip_protocol: (number / 18) as u8,
+        });
+    }
+    for first in &ranges {
+        for second in &ranges {
+            let mut value = Vec::new();
+            push_range(&mut value, first);
+            push_range(&mut value, second);
+            check_range(comparison, &value)?;
+            for at in 0..=value.len() as u64 + 1 {
+                comparison.make(Call::RouteNext {
+                    value: Bytes(value.clone()),
+                    at,
+                })?;
+            }
+            let entries = [range_entry(first, 0x77), range_entry(second, 0x77)];
+            comparison.make(Call::WriteRouteAdvertisement {
+                routes: Bytes(entries.concat()),
+                out: Lent::new(&[0xbb; 72], 0xaa),
+                place: 1,
+            })?;
+            for third in &ranges {
+                let mut value = value.clone();
+                push_range(&mut value, third);
+                check_range(comparison, &value)?;
+            }
+        }
+    }
+    Ok(())
+}
+
+fn check_range(comparison: &mut Comparison, value: &[u8]) -> Outcome {
+    comparison.make(Call::AddressValueGood {
+        capsule_type: 3,
+        value: Bytes(value.to_vec()),
+    })?;
     Ok(())
 }

@@ -75,7 +75,7 @@ pub fn listings(random: &mut Random, comparison: &mut Comparison) -> Outcome {
 
 /// Settings, messages, the field's value, and every error on every version.
 pub fn http(random: &mut Random, comparison: &mut Comparison) -> Outcome {
-    for error in 0..=7 {
+    for error in 0..=8 {
         for version in 0..=4 {
             comparison.make(Call::Translate { error, version })?;
         }

@@ -264,7 +264,7 @@ pub fn frames(random: &mut Random, comparison: &mut Comparison) -> Outcome {
 }
 
 /// A place in an output: where the bytes fit for the last time, one behind that, at its end, past it, and near 2^64.
-fn place(random: &mut Random, fits: usize, length: usize) -> u64 {
+pub fn place(random: &mut Random, fits: usize, length: usize) -> u64 {
     match random.between(0, 15) {
         0 => length as u64 + random.between(0, 2),
         1 => u64::MAX - random.between(0, 12),

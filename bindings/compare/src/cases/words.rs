@@ -16,7 +16,7 @@ fn of_a_reader(random: &mut Random) -> [u64; 8] {
         1 => 1_200,
         _ => random.between(0, 40),
     };
-    let [phase, first, second, third] = match random.between(0, 3) {
+    let [phase, first, second, third] = match random.between(0, 4) {
         0 => {
             let (have, raw) = partial(random);
             [0, have, raw, 0]
@@ -29,6 +29,12 @@ fn of_a_reader(random: &mut Random) -> [u64; 8] {
             let length = random.between(1, 60);
             let left = random.between(1, length);
             [2, capsule_type(random), length, left]
+        }
+        3 => {
+            // Within an address value, or what would be one that is too long.
+            let length = random.one_of(&[7, 7, 10, 1_023, 1_024, 1_025, 1_026, LARGEST]);
+            let left = random.one_of(&[1, 1, 2, 7, length]).min(length);
+            [2, random.between(1, 4), length, left]
         }
         _ => {
             let length = match random.between(0, 2) {
@@ -44,8 +50,8 @@ fn of_a_reader(random: &mut Random) -> [u64; 8] {
         }
     };
     let finished = u64::from(random.one_in(5));
-    let (role, draft) = (random.between(0, 1), random.between(0, 1));
-    [role, limit, draft, phase, first, second, third, finished]
+    let (role, settings) = (random.between(0, 1), random.between(0, 3));
+    [role, limit, settings, phase, first, second, third, finished]
 }
 
 /// Some bytes of a number that is not whole, and their big-endian number.
@@ -61,7 +67,7 @@ fn partial(random: &mut Random) -> (u64, u64) {
 }
 
 /// What a word can be changed to.
-fn changed(random: &mut Random, word: u64) -> [u64; 12] {
+fn changed(random: &mut Random, word: u64) -> [u64; 14] {
     [
         word.wrapping_add(1),
         word.wrapping_sub(1),
@@ -70,6 +76,8 @@ fn changed(random: &mut Random, word: u64) -> [u64; 12] {
         word.wrapping_add(1 << 32),
         0,
         2,
+        3,
+        4,
         LARGEST,
         LARGEST + 1,
         u64::MAX,
@@ -96,7 +104,7 @@ pub fn words(random: &mut Random, comparison: &mut Comparison) -> Outcome {
         words[place] = other[place];
         try_words(random, comparison, words)?;
         let words = [0; 8].map(|_: u64| match random.between(0, 2) {
-            0 => random.between(0, 3),
+            0 => random.between(0, 4),
             1 => random.between(0, 300),
             _ => any(random),
         });
@@ -119,10 +127,16 @@ fn try_words(random: &mut Random, comparison: &mut Comparison, words: [u64; 8]) 
     };
     let gathering = gathering - usize::from(gathering > 0 && random.one_in(8));
     let output = piece.len() + 8 - usize::from(random.one_in(8));
+    // A reader that takes no address capsules does not look at the buffer.
+    let addresses = match words[2] {
+        2 | 3 => random.one_of(&[1_024, 1_024, 1_024, 1_030, 1_023, 0]),
+        _ => random.size(0, 2),
+    };
     let call = Call::ReaderFeed {
         words,
         piece: Bytes(piece),
         gathering: buffer(random, gathering),
+        addresses: buffer(random, addresses),
         output: buffer(random, output),
     };
     comparison.make(call)?;

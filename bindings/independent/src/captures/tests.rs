@@ -46,3 +46,23 @@ fn written_cases_hold_every_cut() {
     assert_eq!(empty, 9);
     assert!(written.iter().any(|c| c.bytes == [0x00, 0x03, 0x61]));
 }
+
+#[test]
+fn address_values_are_well_formed_and_spoiled_ones_are_not() {
+    use crate::addresses::{check, AddressType, Malformed};
+    let mut random = Random::new(9_484);
+    let mut reasons = Vec::new();
+    for capsule_type in AddressType::ALL {
+        let mut lengths = HashSet::new();
+        for _ in 0..3_000 {
+            let value = address_value(&mut random, capsule_type);
+            assert_eq!(check(capsule_type, &value), Ok(()), "{value:?}");
+            lengths.insert(value.len());
+            let spoiled = spoiled_value(&mut random, capsule_type);
+            reasons.extend(check(capsule_type, &spoiled).err());
+        }
+        assert!(lengths.iter().any(|&length| length > 1_000));
+    }
+    assert!(reasons.len() > 4_500);
+    assert!(Malformed::ALL.iter().all(|why| reasons.contains(why)));
+}

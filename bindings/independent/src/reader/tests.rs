@@ -16,14 +16,14 @@ struct Seen {
 
 /// Feeds the pieces one after the other, each until it is used up, and closes.
 fn read(role: Role, limit: u64, draft: bool, pieces: &[&[u8]]) -> Seen {
-    let mut reader = Reader::new(role, limit, draft).unwrap();
+    let mut reader = Reader::new(role, limit, draft, false).unwrap();
     let mut gather = vec![0xaa; limit as usize];
     let mut seen = Seen::default();
     for piece in pieces {
         let mut piece = *piece;
         while !piece.is_empty() {
             let mut out = vec![0xbb; piece.len() + 8];
-            let fed = reader.feed(piece, &mut gather, &mut out).unwrap();
+            let fed = reader.feed(piece, &mut gather, &mut [], &mut out).unwrap();
             assert!(fed.consumed > 0);
             assert!(fed.report.is_some() || fed.consumed == piece.len());
             assert!(out[fed.written..].iter().all(|&byte| byte == 0xbb));
@@ -229,9 +229,9 @@ fn lengths_near_two_to_the_sixty_second() {
 
 #[test]
 fn the_longest_capsule_ends_at_its_last_byte() {
-    let mut reader = Reader::new(Role::Endpoint, 0, false).unwrap();
+    let mut reader = Reader::new(Role::Endpoint, 0, false, false).unwrap();
     let header = [0x17, 0xff, 0xff, 0xff, 0xff, 0xff, 0xff, 0xff, 0xff];
-    let fed = reader.feed(&header, &mut [], &mut []).unwrap();
+    let fed = reader.feed(&header, &mut [], &mut [], &mut []).unwrap();
     assert_eq!((fed.consumed, fed.report), (9, None));
     let coming = |left| State::Value {
         capsule_type: 23,
@@ -240,9 +240,11 @@ fn the_longest_capsule_ends_at_its_last_byte() {
     };
     assert_eq!(reader.state, coming(LONGEST));
     reader.state = coming(2);
-    let fed = reader.feed(&[0x00], &mut [], &mut []).unwrap();
+    let fed = reader.feed(&[0x00], &mut [], &mut [], &mut []).unwrap();
     assert_eq!((fed.consumed, fed.report), (1, None));
-    let fed = reader.feed(&[0x00, 0x00], &mut [], &mut []).unwrap();
+    let fed = reader
+        .feed(&[0x00, 0x00], &mut [], &mut [], &mut [])
+        .unwrap();
     assert_eq!((fed.consumed, fed.report), (1, Some(skipped(23, LONGEST))));
     assert_eq!(reader.close(), Ok(Closing::Clean));
 }
@@ -257,11 +259,11 @@ fn the_largest_type() {
 
 #[test]
 fn type_bytes_are_held_until_the_type_is_whole() {
-    let mut reader = Reader::new(Role::Intermediary, 0, false).unwrap();
+    let mut reader = Reader::new(Role::Intermediary, 0, false, false).unwrap();
     let capsule_type = [0xc0, 0x00, 0x00, 0x00, 0x00, 0x00, 0x00, 0x17];
     for (index, &byte) in capsule_type.iter().enumerate() {
         let mut out = [0xbb; 9];
-        let fed = reader.feed(&[byte], &mut [], &mut out).unwrap();
+        let fed = reader.feed(&[byte], &mut [], &mut [], &mut out).unwrap();
         assert_eq!(fed.consumed, 1);
         if index < 7 {
             assert_eq!((fed.written, out), (0, [0xbb; 9]));
@@ -273,14 +275,14 @@ fn type_bytes_are_held_until_the_type_is_whole() {
 
 #[test]
 fn no_byte_is_stored_but_of_a_datagram_within_the_limit() {
-    let mut reader = Reader::new(Role::Endpoint, 4, false).unwrap();
+    let mut reader = Reader::new(Role::Endpoint, 4, false, false).unwrap();
     let mut gather = [0xaa; 6];
     let mut rest: &[u8] = &[
         0x00, 0x05, 1, 2, 3, 4, 5, 0x17, 0x02, 6, 7, 0x00, 0x04, 8, 9,
     ];
     while !rest.is_empty() {
         let before = gather;
-        let fed = reader.feed(rest, &mut gather, &mut []).unwrap();
+        let fed = reader.feed(rest, &mut gather, &mut [], &mut []).unwrap();
         if fed.report.is_some() {
             assert_eq!(gather, before);
         }
@@ -293,11 +295,11 @@ fn no_byte_is_stored_but_of_a_datagram_within_the_limit() {
 #[test]
 fn an_empty_piece_changes_nothing() {
     for front in 0..S.len() {
-        let mut reader = Reader::new(Role::Intermediary, 3, false).unwrap();
+        let mut reader = Reader::new(Role::Intermediary, 3, false, false).unwrap();
         let (mut gather, mut out) = ([0; 3], [0; 30]);
         let mut rest = &S[..front];
         while !rest.is_empty() {
-            let fed = reader.feed(rest, &mut gather, &mut out).unwrap();
+            let fed = reader.feed(rest, &mut gather, &mut [], &mut out).unwrap();
             rest = &rest[fed.consumed..];
         }
         let before = (reader.clone(), gather, out);
@@ -306,42 +308,47 @@ fn an_empty_piece_changes_nothing() {
             written: 0,
             report: None,
         };
-        assert_eq!(reader.feed(&[], &mut gather, &mut out), Ok(nothing));
+        assert_eq!(
+            reader.feed(&[], &mut gather, &mut [], &mut out),
+            Ok(nothing)
+        );
         assert_eq!((reader, gather, out), before);
     }
 }
 
 #[test]
 fn refusals() {
-    assert!(Reader::new(Role::Endpoint, 65_535, false).is_ok());
+    assert!(Reader::new(Role::Endpoint, 65_535, false, false).is_ok());
     for limit in [65_536, u64::MAX] {
-        let refusal = Reader::new(Role::Endpoint, limit, false).unwrap_err();
+        let refusal = Reader::new(Role::Endpoint, limit, false, false).unwrap_err();
         assert_eq!(refusal, Refusal::LimitTooLarge);
     }
 
     // 4 by the length of the gathering buffer alone, in both roles and before 5
     for role in [Role::Endpoint, Role::Intermediary] {
-        let mut reader = Reader::new(role, 3, false).unwrap();
+        let mut reader = Reader::new(role, 3, false, false).unwrap();
         let before = reader.clone();
         for piece in [&[][..], &[0x17]] {
-            let refused = reader.feed(piece, &mut [0; 2], &mut []);
+            let refused = reader.feed(piece, &mut [0; 2], &mut [], &mut []);
             assert_eq!(refused, Err(Refusal::GatheringBufferTooShort));
         }
         assert_eq!(reader, before);
     }
 
     // 5 for an intermediary alone, inside a DATAGRAM too
-    let mut reader = Reader::new(Role::Intermediary, 3, false).unwrap();
-    let refused = reader.feed(&[], &mut [0; 3], &mut [0; 7]);
+    let mut reader = Reader::new(Role::Intermediary, 3, false, false).unwrap();
+    let refused = reader.feed(&[], &mut [0; 3], &mut [], &mut [0; 7]);
     assert_eq!(refused, Err(Refusal::OutputTooShort));
-    assert!(reader.feed(&[], &mut [0; 3], &mut [0; 8]).is_ok());
-    assert!(reader.feed(&[0, 3], &mut [0; 3], &mut [0; 10]).is_ok());
+    assert!(reader.feed(&[], &mut [0; 3], &mut [], &mut [0; 8]).is_ok());
+    assert!(reader
+        .feed(&[0, 3], &mut [0; 3], &mut [], &mut [0; 10])
+        .is_ok());
     let before = reader.clone();
-    let refused = reader.feed(&[1, 2], &mut [0; 3], &mut [0; 9]);
+    let refused = reader.feed(&[1, 2], &mut [0; 3], &mut [], &mut [0; 9]);
     assert_eq!(refused, Err(Refusal::OutputTooShort));
     assert_eq!(reader, before);
-    let mut reader = Reader::new(Role::Endpoint, 0, false).unwrap();
-    assert!(reader.feed(&[0x17], &mut [], &mut []).is_ok());
+    let mut reader = Reader::new(Role::Endpoint, 0, false, false).unwrap();
+    assert!(reader.feed(&[0x17], &mut [], &mut [], &mut []).is_ok());
 
     // 2 before the others
     assert_eq!(reader.close(), Ok(Closing::Truncated));
@@ -349,8 +356,166 @@ fn refusals() {
     assert_eq!(reader.close(), Err(Refusal::Finished));
     let mut reader = Reader { limit: 9, ..reader };
     for piece in [&[][..], &[0x00]] {
-        let refused = reader.feed(piece, &mut [], &mut []);
+        let refused = reader.feed(piece, &mut [], &mut [], &mut []);
         assert_eq!(refused, Err(Refusal::Finished));
     }
     assert_eq!(Reader { limit: 0, ..reader }, before);
+}
+
+/// Feeds an opted-in endpoint, limit 2, until a capsule is malformed. Answers the reports, the delivered values, how many
+/// bytes were consumed, and the address buffer.
+fn read_addresses(pieces: &[&[u8]]) -> (Vec<Report>, Vec<Vec<u8>>, usize, Vec<u8>) {
+    let mut reader = Reader::new(Role::Endpoint, 2, false, true).unwrap();
+    let (mut gather, mut addresses) = ([0xaa; 2], vec![0xaa; 1_024]);
+    let (mut reports, mut values, mut consumed) = (vec![], vec![], 0);
+    for piece in pieces {
+        let mut piece = *piece;
+        while !piece.is_empty() {
+            let fed = match reader.feed(piece, &mut gather, &mut addresses, &mut []) {
+                Ok(fed) => fed,
+                Err(refusal) => {
+                    assert_eq!(refusal, Refusal::Finished);
+                    assert!(matches!(reports.last(), Some(Malformed { .. })));
+                    break;
+                }
+            };
+            if let Some(AddressDelivered { length, .. }) = fed.report {
+                values.push(addresses[..length as usize].to_vec());
+            }
+            reports.extend(fed.report);
+            consumed += fed.consumed;
+            piece = &piece[fed.consumed..];
+        }
+    }
+    if let Some(Malformed { .. }) = reports.last() {
+        assert_eq!(reader.words(), [0, 2, 2, 0, 0, 0, 0, 1]);
+        assert_eq!(reader.close(), Err(Refusal::Finished));
+    }
+    (reports, values, consumed, addresses)
+}
+
+fn delivered(capsule_type: u64, length: u64) -> Report {
+    AddressDelivered {
+        capsule_type,
+        length,
+    }
+}
+
+fn malformed(capsule_type: u64, length: u64) -> Report {
+    Malformed {
+        capsule_type,
+        length,
+    }
+}
+
+#[test]
+fn address_capsules_at_an_endpoint_that_takes_them() {
+    let stream = [
+        0x40, 0x01, 0x07, 0x00, 0x04, 10, 0, 0, 1, 32, 0x00, 0x01, 0x61, 0x03, 0x00, 0x04, 0x00,
+        0x01, 0x40, 0x00,
+    ];
+    both_cuts(&stream, |pieces| {
+        let (reports, values, consumed, addresses) = read_addresses(pieces);
+        let expected = [
+            delivered(1, 7),
+            Delivered { length: 1 },
+            delivered(3, 0),
+            skipped(4, 0),
+            delivered(1, 0),
+        ];
+        assert_eq!(reports, expected);
+        assert_eq!(values, [stream[3..10].to_vec(), vec![], vec![]]);
+        assert_eq!(consumed, stream.len());
+        assert_eq!(addresses[..8], [0x00, 0x04, 10, 0, 0, 1, 32, 0xaa]);
+    });
+}
+
+#[test]
+fn a_malformed_capsule_finishes_the_reader() {
+    let longest = [0xff; 8];
+    let cases: [(&[u8], Report, usize, &[u8]); 4] = [
+        (&[0x02, 0x00, 0x00, 0x00], malformed(2, 0), 2, &[]),
+        (&[0x01, 0x44, 0x01, 0x00], malformed(1, 1_025), 3, &[]),
+        (
+            &[&[0x03][..], &longest, &[0x00]].concat(),
+            malformed(3, LONGEST),
+            9,
+            &[],
+        ),
+        (
+            &[0x01, 0x07, 0, 5, 0, 0, 0, 0, 0, 0x17, 0x00],
+            malformed(1, 7),
+            9,
+            &[0, 5, 0, 0, 0, 0, 0],
+        ),
+    ];
+    for (stream, report, end, stored) in cases {
+        both_cuts(stream, |pieces| {
+            let (reports, _, consumed, addresses) = read_addresses(pieces);
+            assert_eq!((&reports[..], consumed), (&[report][..], end));
+            assert_eq!(addresses[..stored.len()], *stored);
+            assert!(addresses[stored.len()..].iter().all(|&byte| byte == 0xaa));
+        });
+    }
+}
+
+#[test]
+fn address_values_of_1_024_bytes_and_more() {
+    let entries = [0x40, 0x07, 0x04, 10, 0, 0, 0, 8].repeat(128);
+    let stream = [&[0x01, 0x44, 0x00][..], &entries].concat();
+    let (reports, values, ..) = read_addresses(&[&stream]);
+    assert_eq!(
+        (reports, values),
+        (vec![delivered(1, 1_024)], vec![entries])
+    );
+
+    // One byte more, by readers that do not take it
+    let mut stream = vec![0x01, 0x44, 0x01];
+    stream.resize(3 + 1_025, 0x05);
+    for (role, addresses, report) in [
+        (Role::Endpoint, false, skipped(1, 1_025)),
+        (Role::Intermediary, false, passed(1, 1_025)),
+        (Role::Intermediary, true, passed(1, 1_025)),
+    ] {
+        let mut reader = Reader::new(role, 0, false, addresses).unwrap();
+        let mut out = vec![0; stream.len() + 8];
+        let fed = reader.feed(&stream, &mut [], &mut [], &mut out).unwrap();
+        assert_eq!((fed.consumed, fed.report), (stream.len(), Some(report)));
+        if role == Role::Intermediary {
+            assert_eq!(out[..fed.written], stream);
+        }
+    }
+}
+
+#[test]
+fn the_address_buffer_is_judged_as_it_stands() {
+    let capsule = [0x01, 0x07, 0x00, 0x05, 10, 0, 0, 1, 32];
+    let mut reader = Reader::new(Role::Endpoint, 0, false, true).unwrap();
+    let mut addresses = [0; 1_024];
+    let fed = reader.feed(&capsule[..8], &mut [], &mut addresses, &mut []);
+    assert_eq!(fed.unwrap().report, None);
+    addresses[1] = 4;
+    let fed = reader.feed(&capsule[8..], &mut [], &mut addresses, &mut []);
+    assert_eq!(fed.unwrap().report, Some(delivered(1, 7)));
+}
+
+#[test]
+fn refusals_for_the_address_buffer() {
+    // 18 by its length alone, behind 4 and 2, for an endpoint that takes address capsules
+    let mut reader = Reader::new(Role::Endpoint, 3, false, true).unwrap();
+    for piece in [&[][..], &[0x17]] {
+        let refused = reader.feed(piece, &mut [0; 3], &mut [0; 1_023], &mut []);
+        assert_eq!(refused, Err(Refusal::AddressBufferTooShort));
+        let refused = reader.feed(piece, &mut [0; 2], &mut [0; 1_023], &mut []);
+        assert_eq!(refused, Err(Refusal::GatheringBufferTooShort));
+        let fed = reader.feed(piece, &mut [0; 3], &mut [0; 1_024], &mut []);
+        assert!(fed.is_ok());
+    }
+    assert_eq!(reader.close(), Ok(Closing::Truncated));
+    let refused = reader.feed(&[], &mut [], &mut [], &mut []);
+    assert_eq!(refused, Err(Refusal::Finished));
+    let mut reader = Reader::new(Role::Intermediary, 0, false, true).unwrap();
+    let refused = reader.feed(&[], &mut [], &mut [], &mut []);
+    assert_eq!(refused, Err(Refusal::OutputTooShort));
+    assert!(reader.feed(&[], &mut [], &mut [], &mut [0; 8]).is_ok());
 }

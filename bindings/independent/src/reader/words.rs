@@ -1,10 +1,11 @@
 //! A reader as eight words, the form in which the C interface keeps one.
 //!
-//! Role, datagram limit, draft setting, phase, three words that go by the phase, finished. In the type: how many bytes
+//! Role, datagram limit, settings (1 draft, 2 addresses), phase, three words that go by the phase, finished. In the type: how many bytes
 //! have come, their big-endian number, 0. In the length: the type, how many bytes have come, their number. In the
 //! value: the type, the length, how many bytes are left.
 
 use super::{Reader, Role, State, LARGEST_LIMIT};
+use crate::addresses::LONGEST_VALUE;
 use crate::varint::{Arriving, LARGEST};
 
 impl Reader {
@@ -29,21 +30,29 @@ impl Reader {
             Role::Endpoint => 0,
             Role::Intermediary => 1,
         };
-        let (draft, finished) = (u64::from(self.draft), u64::from(self.finished));
+        let settings = u64::from(self.draft) + 2 * u64::from(self.addresses);
+        let finished = u64::from(self.finished);
         [
-            role, self.limit, draft, phase, first, second, third, finished,
+            role, self.limit, settings, phase, first, second, third, finished,
         ]
     }
 
     /// The reader with these words, or `None` if no opening, feeding and closing makes one.
     pub fn from_words(words: [u64; 8]) -> Option<Reader> {
-        let [role, limit, draft, phase, first, second, third, finished] = words;
+        let [role, limit, settings, phase, first, second, third, finished] = words;
         let role = match role {
             0 => Role::Endpoint,
             1 => Role::Intermediary,
             _ => return None,
         };
-        if limit > LARGEST_LIMIT || draft > 1 || finished > 1 {
+        let (draft, addresses) = match settings {
+            0 => (false, false),
+            1 => (true, false),
+            2 => (false, true),
+            3 => (true, true),
+            _ => return None,
+        };
+        if limit > LARGEST_LIMIT || finished > 1 {
             return None;
         }
         let mut arriving_type = Arriving::default();
@@ -72,15 +81,27 @@ impl Reader {
             }
             _ => return None,
         };
-        Some(Reader {
+        let reader = Reader {
             role,
             limit,
-            draft: draft == 1,
+            draft,
+            addresses,
             finished: finished == 1,
             state,
             arriving_type,
             arriving_length,
-        })
+        };
+        // An address value that is too long has ended the reader at its length.
+        match state {
+            State::Value {
+                capsule_type,
+                length,
+                ..
+            } if length > LONGEST_VALUE as u64 && reader.address_type(capsule_type).is_some() => {
+                None
+            }
+            _ => Some(reader),
+        }
     }
 }
 
@@ -90,7 +111,7 @@ mod tests {
 
     #[test]
     fn words_of_each_phase() {
-        let mut reader = Reader::new(Role::Intermediary, 5, true).unwrap();
+        let mut reader = Reader::new(Role::Intermediary, 5, true, false).unwrap();
         assert_eq!(reader.words(), [1, 5, 1, 0, 0, 0, 0, 0]);
         for (byte, words) in [
             (0x40, [1, 5, 1, 0, 1, 0x40, 0, 0]),
@@ -102,7 +123,8 @@ mod tests {
             (0x99, [1, 5, 1, 2, 0x17, 2, 1, 0]),
             (0x99, [1, 5, 1, 0, 0, 0, 0, 0]),
         ] {
-            reader.feed(&[byte], &mut [0; 5], &mut [0; 9]).unwrap();
+            let fed = reader.feed(&[byte], &mut [0; 5], &mut [], &mut [0; 9]);
+            assert!(fed.is_ok());
             assert_eq!(reader.words(), words);
             let again = Reader::from_words(words).unwrap();
             assert_eq!(again.words(), words);
@@ -117,7 +139,7 @@ mod tests {
         for words in [
             [2, 0, 0, 0, 0, 0, 0, 0],
             [0, 65_536, 0, 0, 0, 0, 0, 0],
-            [0, 0, 2, 0, 0, 0, 0, 0],
+            [0, 0, 4, 0, 0, 0, 0, 0],
             [0, 0, 0, 3, 0, 0, 0, 0],
             [0, 0, 0, 0, 0, 0, 0, 2],
             // no bytes, but a number; a number too large for its bytes; a whole number; more bytes than any
@@ -134,6 +156,10 @@ mod tests {
             [0, 0, 0, 2, 0, large, 1, 0],
             [0, 0, 0, 2, 0, 1, 0, 0],
             [0, 0, 0, 2, 0, 1, 2, 0],
+            // within an address value that is too long
+            [0, 0, 2, 2, 1, 1_025, 1, 0],
+            [0, 0, 3, 2, 3, large - 1, 1, 0],
+            [0, 0, 2, 2, 2, 1_025, 1_025, 1],
         ] {
             assert_eq!(Reader::from_words(words), None, "{words:?}");
         }
@@ -141,6 +167,12 @@ mod tests {
             [1, 65_535, 1, 0, 7, 0xff_ffff_ffff_ffff, 0, 1],
             [0, 0, 0, 1, large - 1, 3, 0x80_0000, 0],
             [0, 0, 0, 2, large - 1, large - 1, 1, 0],
+            [0, 0, 2, 2, 1, 1_024, 1_024, 0],
+            [0, 0, 2, 1, 1, 1, 0x44, 0],
+            [0, 0, 2, 2, 4, 1_025, 1, 0],
+            [0, 0, 2, 2, 0, 1_025, 1, 0],
+            [0, 0, 1, 2, 1, 1_025, 1, 0],
+            [1, 0, 2, 2, 1, 1_025, 1, 0],
         ] {
             assert!(Reader::from_words(words).is_some(), "{words:?}");
         }

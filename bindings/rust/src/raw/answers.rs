@@ -1,4 +1,6 @@
-//! The answers of the C interface, field by field.
+//! The answers and entries of the C interface, field by field.
+
+use std::mem::size_of;
 
 /// The answer of [`read_varint`](super::read_varint); `size` 0 says that the bytes end first.
 #[repr(C)]
@@ -30,12 +32,14 @@ pub struct Fed {
     pub consumed: u64,
     /// How many bytes were written to the front of the output.
     pub written: u64,
-    /// 0 no capsule ended, 1 delivered, 2 dropped, 3 skipped, 4 passed.
+    /// 0 no capsule ended, 1 delivered, 2 dropped, 3 skipped, 4 passed, 5 address capsule delivered, 6 malformed.
     pub report: u64,
-    /// The type of a capsule that was skipped or passed, else 0.
+    /// The type of the capsule that ended, 0 for delivered and dropped.
     pub capsule_type: u64,
     /// The length of the capsule that ended, else 0.
     pub length: u64,
+    /// The error's number with report 6, else 0.
+    pub error: u64,
 }
 
 /// The answer of [`reader_close`](super::reader_close).
@@ -100,6 +104,64 @@ pub struct Judged {
     pub length: u64,
     /// The error's number with rules 1, 2, 3 and 6, else 0.
     pub error: u64,
+}
+
+/// An entry of ADDRESS_ASSIGN or ADDRESS_REQUEST.
+#[repr(C)]
+#[derive(Clone, Copy, Debug, Default, PartialEq, Eq, Hash)]
+pub struct Address {
+    /// The request ID.
+    pub request_id: u64,
+    /// 4 or 6.
+    pub ip_version: u8,
+    /// How many bits of the address count; those beyond are 0.
+    pub prefix_length: u8,
+    /// The address. Of version 4 it is the first 4 bytes; the others are 0 in what is read, and not looked at in what
+    /// is written.
+    pub address: [u8; 16],
+    /// 0 in what is read, not looked at in what is written.
+    pub reserved: [u8; 6],
+}
+
+/// A range of ROUTE_ADVERTISEMENT.
+#[repr(C)]
+#[derive(Clone, Copy, Debug, Default, PartialEq, Eq, Hash)]
+pub struct Route {
+    /// 4 or 6.
+    pub ip_version: u8,
+    /// The IP protocol, 0 for all.
+    pub ip_protocol: u8,
+    /// The first address; bytes as in [`Address`].
+    pub start: [u8; 16],
+    /// The last address; bytes as in [`Address`].
+    pub end: [u8; 16],
+}
+
+// The sizes that the archive was built for. Neither has a byte between or behind its fields.
+const _: () = assert!(size_of::<Address>() == 32 && size_of::<Route>() == 34);
+
+/// The answer of [`address_next`](super::address_next).
+#[repr(C)]
+#[derive(Clone, Copy, Debug, Default, PartialEq, Eq)]
+pub struct AddressFound {
+    /// 0 the value's end, 1 found, 2 no whole entry.
+    pub found: u64,
+    /// The place behind the entry, or the place itself where none was found.
+    pub next: u64,
+    /// The entry, all 0 where none was found.
+    pub address: Address,
+}
+
+/// The answer of [`route_next`](super::route_next).
+#[repr(C)]
+#[derive(Clone, Copy, Debug, Default, PartialEq, Eq)]
+pub struct RouteFound {
+    /// 0 the value's end, 1 found, 2 no whole entry.
+    pub found: u64,
+    /// The place behind the entry, or the place itself where none was found.
+    pub next: u64,
+    /// The entry, all 0 where none was found.
+    pub route: Route,
 }
 
 /// The answer of [`translate`](super::translate).

@@ -41,6 +41,24 @@ slice-aggregate-write-two-2 c = search needs
 write-two-requires-2 : tie.Need-write-two-requires-2
 write-two-requires-2 c κs = search needs
 
+enum-known-report-5 : tie.Need-enum-known-report-5
+enum-known-report-5 c = search needs
+
+slice-aggregate-write-two-3 : tie.Need-slice-aggregate-write-two-3
+slice-aggregate-write-two-3 c = search needs
+
+write-two-requires-3 : tie.Need-write-two-requires-3
+write-two-requires-3 c κs = search needs
+
+enum-known-report-6 : tie.Need-enum-known-report-6
+enum-known-report-6 c = search needs
+
+slice-aggregate-write-two-4 : tie.Need-slice-aggregate-write-two-4
+slice-aggregate-write-two-4 c = search needs
+
+write-two-requires-4 : tie.Need-write-two-requires-4
+write-two-requires-4 c κs = search needs
+
 same-length : tie.Need-same-length
 same-length c = search needs
 
@@ -69,6 +87,20 @@ returns-4 : tie.Need-returns-4
 unfolding reportLine text
 returns-4 c = rw (c .before .before .before .before .before .before .report4 .given .1, reportLine) (c .before .before .write-two2 .ensures .0, omega (arith, c .before .before .write-two2 .ensures .1))
 
+same-length-5 : tie.Need-same-length-5
+same-length-5 c = search needs
+
+returns-5 : tie.Need-returns-5
+unfolding reportLine text
+returns-5 c = rw (c .before .before .before .before .before .before .report5 .given .1, reportLine) (c .before .before .write-two3 .ensures .0, omega (arith, c .before .before .write-two3 .ensures .1))
+
+same-length-6 : tie.Need-same-length-6
+same-length-6 c = search needs
+
+returns-6 : tie.Need-returns-6
+unfolding reportLine text
+returns-6 c = rw (c .before .before .before .before .before .before .report6 .given .1, reportLine) (c .before .before .write-two4 .ensures .0, omega (arith, c .before .before .write-two4 .ensures .1))
+
 pub write-report-spec : {M : Type 1} → statement M
 write-report-spec =
     tie.close
@@ -85,6 +117,12 @@ write-report-spec =
     enum-known-report-4
     slice-aggregate-write-two-2
     write-two-requires-2
+    enum-known-report-5
+    slice-aggregate-write-two-3
+    write-two-requires-3
+    enum-known-report-6
+    slice-aggregate-write-two-4
+    write-two-requires-4
     same-length
     returns
     same-length-2
@@ -92,4 +130,8 @@ write-report-spec =
     same-length-3
     returns-3
     same-length-4
-    returns-4)
+    returns-4
+    same-length-5
+    returns-5
+    same-length-6
+    returns-6)

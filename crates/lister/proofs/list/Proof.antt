@@ -38,8 +38,11 @@ slice-aggregate-list-all-3 c = search needs
 slice-aggregate-list-all-4 : tie.Need-slice-aggregate-list-all-4
 slice-aggregate-list-all-4 c = search needs
 
+slice-aggregate-list-all-5 : tie.Need-slice-aggregate-list-all-5
+slice-aggregate-list-all-5 c = search needs
+
 list-all-requires : tie.Need-list-all-requires
-list-all-requires c κs = (omega arith, opened-ready _ _ _ (omega arith) (sym (c .before .before .before .before .before .before .before .open .ensures) ∙ c .before .before .before .before .before .opened .given .1))
+list-all-requires c κs = (omega arith, opened-ready _ _ _ _ (omega arith) (sym (c .before .before .before .before .before .before .before .before .open .ensures) ∙ c .before .before .before .before .before .before .opened .given .1))
 
 returns : tie.Need-returns
 returns c = search needs
@@ -62,6 +65,7 @@ list-spec =
     slice-aggregate-list-all-2
     slice-aggregate-list-all-3
     slice-aggregate-list-all-4
+    slice-aggregate-list-all-5
     list-all-requires
     returns
     returns-2)

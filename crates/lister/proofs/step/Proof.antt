@@ -19,7 +19,7 @@ same-length c = search needs
 
 returns : tie.Need-returns
 returns c =
-    let was = c .before .before .before .before .before .before .before .before .before .before .pre in
+    let was = c .before .before .before .before .before .before .before .before .before .before .before .pre in
     rw (c .new .ensures) (record { used = was .used; have = was .have; held = omega arith; ready = was .ready })
 
 list-read-requires : tie.Need-list-read-requires
@@ -37,23 +37,27 @@ same-length-4 c = search needs
 same-length-5 : tie.Need-same-length-5
 same-length-5 c = search needs
 
+same-length-6 : tie.Need-same-length-6
+same-length-6 c = search needs
+
 returns-2 : tie.Need-returns-2
 returns-2 c =
-    let read = c .before .before .before .before .before .before .list-read in
-    moved _ (read .ensures .within) refl (read .kept .1 .1 .0) (read .kept .1 .1 .1 .0) (read .kept .1 .1 .1 .1 .0)
+    let read = c .before .before .before .before .before .before .before .before .list-read in
+    let kept = read .kept .1 .1 in
+    moved _ (read .ensures .within) refl (kept .0) (kept .1 .0) (kept .1 .1 .0) (kept .1 .1 .1 .0)
 
 read-more-requires : tie.Need-read-more-requires
 read-more-requires c κs = search needs
 
-same-length-6 : tie.Need-same-length-6
-same-length-6 c = search needs
-
 same-length-7 : tie.Need-same-length-7
 same-length-7 c = search needs
 
+same-length-8 : tie.Need-same-length-8
+same-length-8 c = search needs
+
 returns-3 : tie.Need-returns-3
 returns-3 c =
-    let was = c .before .before .before .before .before .before .before .before .before .before .before .before .before .before .before .pre in
+    let was = c .before .before .before .before .before .before .before .before .before .before .before .before .before .before .before .before .pre in
     read-ready _ _ (c .before .before .before .before .read-more .ensures) (omega arith) (was .ready)
 
 pub step-spec : {M : Type 1} → statement M
@@ -70,8 +74,9 @@ step-spec =
     same-length-3
     same-length-4
     same-length-5
+    same-length-6
     returns-2
     read-more-requires
-    same-length-6
     same-length-7
+    same-length-8
     returns-3)

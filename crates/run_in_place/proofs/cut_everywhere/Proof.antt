@@ -6,10 +6,10 @@ use Rattle.run_in_place.proofs.cut_everywhere.Statement.{statement}
 use Rattle.run_in_place.proofs.cut_everywhere.Tie as tie
 
 abbrev Inv-loop : tie.InvT-loop
-Inv-loop stream k₀ k = k ≤ suc (length stream)
+Inv-loop opt-in stream k₀ k = k ≤ suc (length stream)
 
 abbrev μ-loop : tie.MeasureT-loop
-μ-loop stream k₀ k = suc (length stream) - k
+μ-loop opt-in stream k₀ k = suc (length stream) - k
 
 loop-holds : tie.Need-loop-holds Inv-loop μ-loop
 loop-holds c = omega arith

@@ -7,10 +7,11 @@ use Rattle.run_in_place.proofs.read.Statement.{statement}
 use Rattle.run_in_place.proofs.read.Tie as tie
 
 abbrev Inv-loop : tie.InvT-loop
-Inv-loop piece gathering₀ r₀ at₀ gathering r at = (at ≤ length piece) × (length gathering ≡ length gathering₀)
+Inv-loop piece gathering₀ addresses₀ r₀ at₀ gathering addresses r at =
+    (at ≤ length piece) × (length gathering ≡ length gathering₀) × (length addresses ≡ length addresses₀)
 
 abbrev μ-loop : tie.MeasureT-loop
-μ-loop piece gathering₀ r₀ at₀ gathering r at = length piece - at
+μ-loop piece gathering₀ addresses₀ r₀ at₀ gathering addresses r at = length piece - at
 
 loop-holds : tie.Need-loop-holds Inv-loop μ-loop
 loop-holds c = omega arith
@@ -33,14 +34,20 @@ consumed-requires c κs = search needs
 same-length : tie.Need-same-length Inv-loop μ-loop
 same-length c = omega arith
 
+same-length-2 : tie.Need-same-length-2 Inv-loop μ-loop
+same-length-2 c = omega arith
+
 returns : tie.Need-returns Inv-loop μ-loop
 returns c = search needs
 
 sub-if2 : tie.Need-sub-if2 Inv-loop μ-loop
 sub-if2 c = omega arith
 
-same-length-2 : tie.Need-same-length-2 Inv-loop μ-loop
-same-length-2 c = omega arith
+same-length-3 : tie.Need-same-length-3 Inv-loop μ-loop
+same-length-3 c = omega arith
+
+same-length-4 : tie.Need-same-length-4 Inv-loop μ-loop
+same-length-4 c = omega arith
 
 returns-2 : tie.Need-returns-2 Inv-loop μ-loop
 returns-2 c = search needs
@@ -54,8 +61,11 @@ loop-less c = omega arith
 loop-again : tie.Need-loop-again Inv-loop μ-loop
 loop-again c = omega arith
 
-same-length-3 : tie.Need-same-length-3 Inv-loop μ-loop
-same-length-3 c = omega arith
+same-length-5 : tie.Need-same-length-5 Inv-loop μ-loop
+same-length-5 c = omega arith
+
+same-length-6 : tie.Need-same-length-6 Inv-loop μ-loop
+same-length-6 c = omega arith
 
 returns-3 : tie.Need-returns-3 Inv-loop μ-loop
 returns-3 c = search needs
@@ -73,12 +83,15 @@ read-spec =
     feed-requires
     consumed-requires
     same-length
+    same-length-2
     returns
     sub-if2
-    same-length-2
+    same-length-3
+    same-length-4
     returns-2
     add-at
     loop-less
     loop-again
-    same-length-3
+    same-length-5
+    same-length-6
     returns-3)

@@ -43,17 +43,23 @@ same-length c = search needs
 same-length-2 : tie.Need-same-length-2
 same-length-2 c = search needs
 
-returns-2 : tie.Need-returns-2
-returns-2 c = feed-kept _ _ _ _ _ _ _ _ (sym (c .before .before .before .before .before .before .before .before .before .before .before .before .before .before .load .ensures) ∙ c .before .before .before .before .before .before .before .before .before .before .before .before .reader .given .1) (c .before .before .before .before .before .before .before .before .feed .ensures) _ (c .before .before .answer .given .1) (c .feed-refused2 .ensures)
-
 same-length-3 : tie.Need-same-length-3
 same-length-3 c = search needs
+
+returns-2 : tie.Need-returns-2
+returns-2 c = feed-kept _ _ _ _ _ _ _ _ (sym (c .before .before .before .before .before .before .before .before .before .before .before .before .before .before .before .before .before .load .ensures) ∙ c .before .before .before .before .before .before .before .before .before .before .before .before .before .before .before .reader .given .1) (c .before .before .before .before .before .before .before .before .before .before .feed .ensures) _ (c .before .before .answer .given .1) (c .feed-refused2 .ensures)
 
 same-length-4 : tie.Need-same-length-4
 same-length-4 c = search needs
 
+same-length-5 : tie.Need-same-length-5
+same-length-5 c = search needs
+
+same-length-6 : tie.Need-same-length-6
+same-length-6 c = search needs
+
 returns-3 : tie.Need-returns-3
-returns-3 c = feed-stored _ _ _ _ _ _ _ _ (sym (c .before .before .before .before .before .before .before .before .before .before .before .before .before .before .before .before .before .load .ensures) ∙ c .before .before .before .before .before .before .before .before .before .before .before .before .before .before .before .reader .given .1) (c .before .before .before .before .before .before .before .before .before .before .before .feed .ensures) _ _ _ _ (c .before .before .before .before .before .answer2 .given .1) (c .fed-took .ensures) (c .before .store .ensures)
+returns-3 c = feed-stored _ _ _ _ _ _ _ _ (sym (c .before .before .before .before .before .before .before .before .before .before .before .before .before .before .before .before .before .before .before .before .load .ensures) ∙ c .before .before .before .before .before .before .before .before .before .before .before .before .before .before .before .before .before .before .reader .given .1) (c .before .before .before .before .before .before .before .before .before .before .before .before .before .feed .ensures) _ _ _ _ (c .before .before .before .before .before .answer2 .given .1) (c .fed-took .ensures) (c .before .store .ensures)
 
 pub feed-loaded-spec : {M : Type 1} → statement M
 feed-loaded-spec =
@@ -72,7 +78,9 @@ feed-loaded-spec =
     returns
     same-length
     same-length-2
-    returns-2
     same-length-3
+    returns-2
     same-length-4
+    same-length-5
+    same-length-6
     returns-3)

@@ -10,6 +10,9 @@ role-of-requires c κs = search needs
 flag-of-requires : tie.Need-flag-of-requires
 flag-of-requires c κs = search needs
 
+flag-of-requires-2 : tie.Need-flag-of-requires-2
+flag-of-requires-2 c κs = search needs
+
 open-requires : tie.Need-open-requires
 open-requires c κs = search needs
 
@@ -27,11 +30,11 @@ store-requires c κs = search needs
 
 returns : tie.Need-returns
 unfolding openWords openedAt
-returns c = rw (c .refusal-number .ensures, sym (c .before .before .before .before .before .flag-of .ensures), sym (c .before .before .before .before .before .before .role-of .ensures), sym (c .before .before .before .before .«open» .ensures) ∙ c .before .before .why .given .1)
+returns c = rw (c .refusal-number .ensures, sym (c .before .before .before .before .before .flag-of2 .ensures), sym (c .before .before .before .before .before .before .flag-of .ensures), sym (c .before .before .before .before .before .before .before .role-of .ensures), sym (c .before .before .before .before .«open» .ensures) ∙ c .before .before .why .given .1)
 
 returns-2 : tie.Need-returns-2
 unfolding openWords openedAt
-returns-2 c = rw (c .store .ensures, sym (c .before .before .before .before .before .before .flag-of .ensures), sym (c .before .before .before .before .before .before .before .role-of .ensures), sym (c .before .before .before .before .before .«open» .ensures) ∙ c .before .before .before .reader .given .1)
+returns-2 c = rw (c .store .ensures, sym (c .before .before .before .before .before .before .flag-of2 .ensures), sym (c .before .before .before .before .before .before .before .flag-of .ensures), sym (c .before .before .before .before .before .before .before .before .role-of .ensures), sym (c .before .before .before .before .before .«open» .ensures) ∙ c .before .before .before .reader .given .1)
 
 pub mrz-reader-open-spec : {M : Type 1} → statement M
 mrz-reader-open-spec =
@@ -39,6 +42,7 @@ mrz-reader-open-spec =
     (tie.spec
     role-of-requires
     flag-of-requires
+    flag-of-requires-2
     open-requires
     enum-known-why
     refusal-number-requires

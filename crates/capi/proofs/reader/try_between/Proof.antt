@@ -52,7 +52,7 @@ same-length-2 : tie.Need-same-length-2
 same-length-2 c = search needs
 
 returns : tie.Need-returns
-returns c = between-not _ _ _ _ (c .before .before .before .before .before .before .before .before .before .opening-in .ensures) (c .before .before .before .before .before .before .before .before .before .before .before .before .before .before .pre) (c .before .before .before .before .before .before .before .before .before .before .before .before .before .shared-slice-known .given 2 .fits) _ (rw (c .enum-told .given .1) at (c .before .before .before .before .before .before .feed-whole .ensures))
+returns c = between-not _ _ _ _ (c .before .before .before .before .before .before .before .before .before .opening-in .ensures) (c .before .before .before .before .before .before .before .before .before .before .before .before .before .before .before .pre) (c .before .before .before .before .before .before .before .before .before .before .before .before .before .before .shared-slice-known .given 2 .fits) _ (rw (c .enum-told .given .1) at (c .before .before .before .before .before .before .feed-whole .ensures))
 
 same-length-3 : tie.Need-same-length-3
 same-length-3 c = search needs
@@ -62,7 +62,7 @@ same-length-4 c = search needs
 
 returns-2 : tie.Need-returns-2
 returns-2 c =
-    between-fed _ _ _ _ (c .before .before .before .before .before .before .before .before .before .before .before .before .before .opening-in .ensures) (c .before .before .before .before .before .before .before .before .before .before .before .before .before .before .before .before .before .before .pre) (c .before .before .before .before .before .before .before .before .before .before .before .before .before .before .before .before .before .shared-slice-known .given 2 .fits) (sym (ap length (c .before .copied .ensures)) ∙ omega (arith, c .before .copied .ok)) _ _ _ _ (rw (c .before .before .before .before .consumed .given .1) at (c .before .before .before .before .before .before .before .before .before .before .feed-whole .ensures)) _ (c .fed-report .ensures)
+    between-fed _ _ _ _ (c .before .before .before .before .before .before .before .before .before .before .before .before .before .opening-in .ensures) (c .before .before .before .before .before .before .before .before .before .before .before .before .before .before .before .before .before .before .before .pre) (c .before .before .before .before .before .before .before .before .before .before .before .before .before .before .before .before .before .before .shared-slice-known .given 2 .fits) (sym (ap length (c .before .copied .ensures)) ∙ omega (arith, c .before .copied .ok)) _ _ _ _ (rw (c .before .before .before .before .consumed .given .1) at (c .before .before .before .before .before .before .before .before .before .before .feed-whole .ensures)) _ (c .fed-report .ensures)
 
 same-length-5 : tie.Need-same-length-5
 same-length-5 c = search needs
@@ -72,7 +72,7 @@ same-length-6 c = search needs
 
 returns-3 : tie.Need-returns-3
 returns-3 c =
-    between-cut _ _ _ _ (c .before .before .before .before .before .before .before .before .before .before .before .before .before .opening-in .ensures) (c .before .before .before .before .before .before .before .before .before .before .before .before .before .before .before .before .before .before .pre) (c .before .before .before .before .before .before .before .before .before .before .before .before .before .before .before .before .before .shared-slice-known .given 2 .fits) (sym (ap length (c .before .copied2 .ensures)) ∙ omega (arith, c .before .copied2 .ok)) _ _ _ _ _ (rw (c .before .before .before .before .written .given .1) at (c .before .before .before .before .before .before .before .before .before .before .feed-whole .ensures)) _ (c .fed-took .ensures)
+    between-cut _ _ _ _ (c .before .before .before .before .before .before .before .before .before .before .before .before .before .opening-in .ensures) (c .before .before .before .before .before .before .before .before .before .before .before .before .before .before .before .before .before .before .before .pre) (c .before .before .before .before .before .before .before .before .before .before .before .before .before .before .before .before .before .before .shared-slice-known .given 2 .fits) (sym (ap length (c .before .copied2 .ensures)) ∙ omega (arith, c .before .copied2 .ok)) _ _ _ _ _ (rw (c .before .before .before .before .written .given .1) at (c .before .before .before .before .before .before .before .before .before .before .feed-whole .ensures)) _ (c .fed-took .ensures)
 
 pub try-between-spec : {M : Type 1} → statement M
 try-between-spec =

@@ -1,4 +1,4 @@
-use mathlib.Core.Path.{refl, sym, _∙_}
+use mathlib.Core.Path.{refl}
 use Rattle.capi.proofs.ShortWords.{between-reads, within-reads, tried-nothing}
 use borrow.Author.Needs.{needs}
 use Rattle.capi.proofs.reader.try_short.Statement.{statement}

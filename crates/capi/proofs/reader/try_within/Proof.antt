@@ -31,7 +31,7 @@ copied-requires : tie.Need-copied-requires
 copied-requires c κs = search needs
 
 sub-words : tie.Need-sub-words
-sub-words c = within-fits _ _ _ _ (c .before .before .before .before .before .before .before .before .before .before .before .before .before .before .before .opening-in .ensures) (c .before .before .before .before .before .before .before .before .before .before .before .before .before .before .before .before .before .before .before .before .pre) _ _ (rw (c .before .before .before .written .given .1) at (c .before .before .before .before .before .before .before .before .before .feed-inside .ensures))
+sub-words c = within-fits _ _ _ _ (c .before .before .before .before .before .before .before .before .before .before .before .before .before .before .before .opening-in .ensures) (c .before .before .before .before .before .before .before .before .before .before .before .before .before .before .before .before .before .before .before .before .before .pre) _ _ (rw (c .before .before .before .written .given .1) at (c .before .before .before .before .before .before .before .before .before .feed-inside .ensures))
 
 element-write-words : tie.Need-element-write-words
 element-write-words c = search needs
@@ -67,7 +67,7 @@ same-length-2 : tie.Need-same-length-2
 same-length-2 c = search needs
 
 returns : tie.Need-returns
-returns c = within-not _ _ _ _ (c .before .before .before .before .before .before .before .before .before .before .before .before .opening-in .ensures) (c .before .before .before .before .before .before .before .before .before .before .before .before .before .before .before .before .before .pre) _ (rw (c .enum-told .given .1) at (c .before .before .before .before .before .before .feed-inside .ensures))
+returns c = within-not _ _ _ _ (c .before .before .before .before .before .before .before .before .before .before .before .before .opening-in .ensures) (c .before .before .before .before .before .before .before .before .before .before .before .before .before .before .before .before .before .before .pre) _ (rw (c .enum-told .given .1) at (c .before .before .before .before .before .before .feed-inside .ensures))
 
 same-length-3 : tie.Need-same-length-3
 same-length-3 c = search needs
@@ -77,7 +77,7 @@ same-length-4 c = search needs
 
 returns-2 : tie.Need-returns-2
 returns-2 c =
-    within-fed _ _ _ _ (c .before .before .before .before .before .before .before .before .before .before .before .before .before .before .before .before .opening-in .ensures) (c .before .before .before .before .before .before .before .before .before .before .before .before .before .before .before .before .before .before .before .before .before .pre) (sym (ap length (c .before .copied .ensures)) ∙ omega (arith, c .before .copied .ok)) _ _ (rw (c .before .before .before .before .written .given .1) at (c .before .before .before .before .before .before .before .before .before .before .feed-inside .ensures)) _ (c .fed-took .ensures)
+    within-fed _ _ _ _ (c .before .before .before .before .before .before .before .before .before .before .before .before .before .before .before .before .opening-in .ensures) (c .before .before .before .before .before .before .before .before .before .before .before .before .before .before .before .before .before .before .before .before .before .before .pre) (sym (ap length (c .before .copied .ensures)) ∙ omega (arith, c .before .copied .ok)) _ _ (rw (c .before .before .before .before .written .given .1) at (c .before .before .before .before .before .before .before .before .before .before .feed-inside .ensures)) _ (c .fed-took .ensures)
 
 same-length-5 : tie.Need-same-length-5
 same-length-5 c = search needs
@@ -87,7 +87,7 @@ same-length-6 c = search needs
 
 returns-3 : tie.Need-returns-3
 returns-3 c =
-    within-ended _ _ _ _ (c .before .before .before .before .before .before .before .before .before .before .before .before .before .before .before .before .opening-in .ensures) (c .before .before .before .before .before .before .before .before .before .before .before .before .before .before .before .before .before .before .before .before .before .pre) (sym (ap length (c .before .copied2 .ensures)) ∙ omega (arith, c .before .copied2 .ok)) _ _ _ _ (rw (c .before .before .before .before .consumed .given .1) at (c .before .before .before .before .before .before .before .before .before .before .feed-inside .ensures)) _ (c .fed-report .ensures)
+    within-ended _ _ _ _ (c .before .before .before .before .before .before .before .before .before .before .before .before .before .before .before .before .opening-in .ensures) (c .before .before .before .before .before .before .before .before .before .before .before .before .before .before .before .before .before .before .before .before .before .before .pre) (sym (ap length (c .before .copied2 .ensures)) ∙ omega (arith, c .before .copied2 .ok)) _ _ _ _ (rw (c .before .before .before .before .consumed .given .1) at (c .before .before .before .before .before .before .before .before .before .before .feed-inside .ensures)) _ (c .fed-report .ensures)
 
 pub try-within-spec : {M : Type 1} → statement M
 try-within-spec =

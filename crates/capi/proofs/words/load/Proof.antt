@@ -12,8 +12,8 @@ returns : tie.Need-returns
 unfolding readerIn
 returns c = simp (lt-leb _ _ (c .if1 .taken))
 
-element-copy-out-if2 : tie.Need-element-copy-out-if2
-element-copy-out-if2 c = search needs
+element-copy-out-settings : tie.Need-element-copy-out-settings
+element-copy-out-settings c = search needs
 
 returns-2 : tie.Need-returns-2
 unfolding readerIn
@@ -53,8 +53,14 @@ element-copy-out-role-of c = search needs
 role-of-requires : tie.Need-role-of-requires
 role-of-requires c κs = search needs
 
-element-copy-out-t31 : tie.Need-element-copy-out-t31
-element-copy-out-t31 c = search needs
+element-copy-out-t32 : tie.Need-element-copy-out-t32
+element-copy-out-t32 c = search needs
+
+draft-in-requires : tie.Need-draft-in-requires
+draft-in-requires c κs = search needs
+
+addresses-in-requires : tie.Need-addresses-in-requires
+addresses-in-requires c κs = search needs
 
 element-copy-out-flag-of : tie.Need-element-copy-out-flag-of
 element-copy-out-flag-of c = search needs
@@ -62,19 +68,13 @@ element-copy-out-flag-of c = search needs
 flag-of-requires : tie.Need-flag-of-requires
 flag-of-requires c κs = search needs
 
-element-copy-out-flag-of-2 : tie.Need-element-copy-out-flag-of-2
-element-copy-out-flag-of-2 c = search needs
-
-flag-of-requires-2 : tie.Need-flag-of-requires-2
-flag-of-requires-2 c κs = search needs
-
 returns-4 : tie.Need-returns-4
 unfolding readerIn withPhase
 returns-4 c = simp (le-leb _ _ (c .before .before .before .before .before .before .before .before .before .before .before .if1 .left), le-leb _ _ (c .before .before .before .before .before .before .before .before .before .if2 .left), le-leb _ _ (c .before .before .before .before .before .before .before .if3 .left), sym (c .before .before .load-phase .ensures) ∙ c .enum-told .given .1)
 
 returns-5 : tie.Need-returns-5
 unfolding readerIn withPhase
-returns-5 c = simp (le-leb _ _ (c .before .before .before .before .before .before .before .before .before .before .before .before .before .before .before .before .before .before .before .if1 .left), le-leb _ _ (c .before .before .before .before .before .before .before .before .before .before .before .before .before .before .before .before .before .if2 .left), le-leb _ _ (c .before .before .before .before .before .before .before .before .before .before .before .before .before .before .before .if3 .left), sym (c .before .before .before .before .before .before .before .before .before .before .load-phase .ensures) ∙ c .before .before .before .before .before .before .before .before .phase .given .1, c .flag-of2 .ensures, c .before .before .flag-of .ensures, c .before .before .before .before .before .role-of .ensures)
+returns-5 c = simp (le-leb _ _ (c .before .before .before .before .before .before .before .before .before .before .before .before .before .before .before .before .before .before .before .if1 .left), le-leb _ _ (c .before .before .before .before .before .before .before .before .before .before .before .before .before .before .before .before .before .if2 .left), le-leb _ _ (c .before .before .before .before .before .before .before .before .before .before .before .before .before .before .before .if3 .left), sym (c .before .before .before .before .before .before .before .before .before .before .load-phase .ensures) ∙ c .before .before .before .before .before .before .before .before .phase .given .1, c .flag-of .ensures, c .before .before .addresses-in .ensures, c .before .before .before .draft-in .ensures, c .before .before .before .before .before .role-of .ensures)
 
 pub load-spec : {M : Type 1} → statement M
 load-spec =
@@ -82,7 +82,7 @@ load-spec =
     (tie.spec
     element-copy-out-if1
     returns
-    element-copy-out-if2
+    element-copy-out-settings
     returns-2
     element-copy-out-if3
     returns-3
@@ -95,10 +95,10 @@ load-spec =
     enum-known-phase
     element-copy-out-role-of
     role-of-requires
-    element-copy-out-t31
+    element-copy-out-t32
+    draft-in-requires
+    addresses-in-requires
     element-copy-out-flag-of
     flag-of-requires
-    element-copy-out-flag-of-2
-    flag-of-requires-2
     returns-4
     returns-5)

@@ -12,15 +12,21 @@ role-of-requires c κs = search needs
 element-copy-out-t8 : tie.Need-element-copy-out-t8
 element-copy-out-t8 c = search needs
 
-element-copy-out-flag-of : tie.Need-element-copy-out-flag-of
-element-copy-out-flag-of c = search needs
+element-copy-out-draft-in : tie.Need-element-copy-out-draft-in
+element-copy-out-draft-in c = search needs
 
-flag-of-requires : tie.Need-flag-of-requires
-flag-of-requires c κs = search needs
+draft-in-requires : tie.Need-draft-in-requires
+draft-in-requires c κs = search needs
+
+element-copy-out-addresses-in : tie.Need-element-copy-out-addresses-in
+element-copy-out-addresses-in c = search needs
+
+addresses-in-requires : tie.Need-addresses-in-requires
+addresses-in-requires c κs = search needs
 
 returns : tie.Need-returns
 unfolding openingIn
-returns c = rw (c .before .before .before .role-of .ensures, c .flag-of .ensures)
+returns c = rw (c .before .before .before .before .before .role-of .ensures, c .before .before .draft-in .ensures, c .addresses-in .ensures)
 
 pub opening-in-spec : {M : Type 1} → statement M
 opening-in-spec =
@@ -29,6 +35,8 @@ opening-in-spec =
     element-copy-out-role-of
     role-of-requires
     element-copy-out-t8
-    element-copy-out-flag-of
-    flag-of-requires
+    element-copy-out-draft-in
+    draft-in-requires
+    element-copy-out-addresses-in
+    addresses-in-requires
     returns)

@@ -33,7 +33,7 @@ returns-2 c = rw (c .before .before .phase2 .given .1) (c .reach-by-length .ensu
 
 returns-3 : tie.Need-returns-3
 unfolding planOf
-returns-3 c = values _ _ _ _ _ _ _ (omega arith) (makeable-value _ _ _ (rw (c .before .phase3 .given .1) at (c .before .before .before .before .pre))) (rw (c .before .phase3 .given .1) refl)
+returns-3 c = values _ _ _ _ _ _ _ (omega arith) (makeable-value _ _ _ _ (rw (c .before .phase3 .given .1) at (c .before .before .before .before .pre))) (rw (c .before .phase3 .given .1) refl)
 
 pub reach-spec : {M : Type 1} → statement M
 reach-spec =

@@ -1,4 +1,4 @@
--- `feed_connection`, by a walk of its code: the reader is lent to `feed_in_place` for the call, with the three slices, and goes back into the connection. Assumes nothing.
+-- `feed_connection`, by a walk of its code: the reader is lent to `feed_in_place` for the call, with the four slices, and goes back into the connection. Assumes nothing.
 use mathlib.Core.Path.{refl}
 use Prim.Native.Nat.{ℕ, _+_}
 use mathlib.Core.List.{List, [], _∷_}
@@ -34,7 +34,7 @@ use Rattle.host.proofs.reader.feed_connection.Key.{name as #f}
 use Rattle.host.proofs.reader.feed_connection as f
 use Rattle.host.proofs.reader.feed_connection.Statement as stated
 use Rattle.host.proofs.reader.feed_connection.Code as code
-use Rattle.host.proofs.Beside.{three-of-four, buffers-fit}
+use Rattle.host.proofs.Beside.{four-of-five, others-fit}
 use Rattle.host.proofs.Calling.{Ensures}
 use Rattle.host.proofs.Facts.{Feeds}
 use Rattle.host.proofs.InPlace.{placed, EntryInPlace, OwedInPlace, calls-in-place, ends-in-place, meets-in-place}
@@ -42,35 +42,37 @@ use Rattle.host.proofs.Lying.{sv}
 use Rattle.host.proofs.ReaderField.{d, with-reader, lends-reader, reader-back}
 use Rattle.host.proofs.Plain.{reader-struct, connection-struct}
 
-module _ {M : Type 1} (𝓤 : URA M) (H : Heap 𝓤) (A : Atoms 𝓤) (W : Given 𝓤 H A) (at-mem : Memory → SProp 𝓤) (run : Routine → Fun 𝓤) (C : Calls 𝓤 H) (Λ : Loops 𝓤 H) (fm : FmC 𝓤 H (W .laws) C) (known : Triple 𝓤 (C #g) (Ensures (placed reader-struct E.the-row 3 three-of-four) Feeds 𝓤 H A)) (κs : Lfts 4) (qs : Shares 4) (b o : ℕ) (γ : GName) (h : Connection) (p s w : RefT (List ℕ)) where
-  walk : Typed (mirs (typesAt (three-of-four .slots) κs)) (sv p ∷ sv s ∷ sv w ∷ [])
-      → Sq W (EntryInPlace connection-struct E.the-row 3 three-of-four 𝓤 H A W (f.clauses 𝓤 H A at-mem run) κs qs b o γ h (p, (s, (w, tt))) tt)
-      (prop (WpFn 𝓤 H C Λ code.function (vptr b o ∷ sv p ∷ sv s ∷ sv w ∷ []) (OwedInPlace connection-struct E.the-row 3 three-of-four 𝓤 H A W (f.clauses 𝓤 H A at-mem run) κs qs b o γ h (p, (s, (w, tt))) tt)))
+module _ {M : Type 1} (𝓤 : URA M) (H : Heap 𝓤) (A : Atoms 𝓤) (W : Given 𝓤 H A) (at-mem : Memory → SProp 𝓤) (run : Routine → Fun 𝓤) (C : Calls 𝓤 H) (Λ : Loops 𝓤 H) (fm : FmC 𝓤 H (W .laws) C) (known : Triple 𝓤 (C #g) (Ensures (placed reader-struct E.the-row 4 four-of-five) Feeds 𝓤 H A)) (κs : Lfts 5) (qs : Shares 5) (b o : ℕ) (γ : GName) (h : Connection) (p s z w : RefT (List ℕ)) where
+  walk : Typed (mirs (typesAt (four-of-five .slots) κs)) (sv p ∷ sv s ∷ sv z ∷ sv w ∷ [])
+      → Sq W (EntryInPlace connection-struct E.the-row 4 four-of-five 𝓤 H A W (f.clauses 𝓤 H A at-mem run) κs qs b o γ h (p, (s, (z, (w, tt)))) tt)
+      (prop (WpFn 𝓤 H C Λ code.function (vptr b o ∷ sv p ∷ sv s ∷ sv z ∷ sv w ∷ []) (OwedInPlace connection-struct E.the-row 4 four-of-five 𝓤 H A W (f.clauses 𝓤 H A at-mem run) κs qs b o γ h (p, (s, (z, (w, tt)))) tt)))
   walk fit =
-      enter ! C Λ code.function (vptr b o ∷ sv p ∷ sv s ∷ sv w ∷ []) _ $
-      alloc1 ! (λ l₀. alloc1 ! (λ l₁. alloc1 ! (λ l₂. alloc1 ! (λ l₃. alloc1 ! (λ l₄. alloc1 ! (λ l₅. alloc1 ! (λ l₆. alloc1 ! (λ l₇. alloc1 ! (λ l₈. alloc1 ! (λ l₉. alloc0 ! $
-      params1 ! $ pass1 ! (init ! 16 refl (tt, tt)) $ pass1 ! (init ! 14 refl (fit .0)) $ pass1 ! (init ! 12 refl (fit .1 .0)) $ pass1 ! (init ! 10 refl (fit .1 .1 .0)) $ pass0 ! $
-      move ! (20 ∷ 21 ∷ 22 ∷ []) $ lends-reader ! tt b o h (λ was ν δ.
-      -- [the loan's token; the reference; what is kept; _9 at 3; _8; _7; _6; _5 at 11; _4; _3; _2; _1 at 19; _0 at 21; the tokens at 23; the slices]
-      assigns ! (addr ! (from ! (hop ! (look ! 19 refl) (fld ! refl (stop !))))) (from ! (stop !)) (init ! 11 refl (tt, tt)) $
-      assigns ! (addr ! (from ! (fld ! refl (hop ! (look-in ! 15 (sub ! 0 refl (whole !))) (stop !))))) (from ! (stop !)) (init ! 9 refl (tt, tt)) $
-      assigns ! (agg ! (and-then ! (load ! (from ! (stop !)) (look ! 9 refl)) (and-then ! (load ! (from ! (fld ! refl (stop !))) (look-in ! 15 (sub ! 1 refl (whole !)))) (no-more !)))) (from ! (stop !)) (init ! 7 refl (fit .1 .0)) $
-      assigns ! (addr ! (from ! (fld ! refl (hop ! (look-in ! 13 (sub ! 0 refl (whole !))) (stop !))))) (from ! (stop !)) (init ! 5 refl (tt, tt)) $
-      assigns ! (agg ! (and-then ! (load ! (from ! (stop !)) (look ! 5 refl)) (and-then ! (load ! (from ! (fld ! refl (stop !))) (look-in ! 13 (sub ! 1 refl (whole !)))) (no-more !)))) (from ! (stop !)) (init ! 3 refl (fit .1 .1 .0)) $
-      move ! (0 ∷ 1 ∷ 23 ∷ 24 ∷ []) $
-      calls-in-place reader-struct E.the-row 3 three-of-four ! fm Feeds known ν δ b (o + d) (h .reader) (κs .1) (qs .1) (p, (s, (w, tt))) (sv p ∷ [], (sv s ∷ [], (sv w ∷ [], tt)))
-      (and-then ! (load ! (from ! (stop !)) (look ! 10 refl)) (and-then ! (load ! (from ! (stop !)) (look ! 16 refl)) (and-then ! (load ! (from ! (stop !)) (look ! 6 refl)) (and-then ! (load ! (from ! (stop !)) (look ! 2 refl)) (no-more !))))) (λ v r h′ ws e is.
-      -- [the loan's token; the reader's last value; the tokens; the slices; what is kept; _9 at 5; …; _0 at 23]
-      land ! (from ! (stop !)) (init ! 23 refl (EL.lawful E.the-type E′.the-laws 𝓤 H A W tt .typed r _ is .0)) $
+      enter ! C Λ code.function (vptr b o ∷ sv p ∷ sv s ∷ sv z ∷ sv w ∷ []) _ $
+      alloc1 ! (λ l₀. alloc1 ! (λ l₁. alloc1 ! (λ l₂. alloc1 ! (λ l₃. alloc1 ! (λ l₄. alloc1 ! (λ l₅. alloc1 ! (λ l₆. alloc1 ! (λ l₇. alloc1 ! (λ l₈. alloc1 ! (λ l₉. alloc1 ! (λ l₁₀. alloc1 ! (λ l₁₁. alloc1 ! (λ l₁₂. alloc0 ! $
+      params1 ! $ pass1 ! (init ! 22 refl (tt, tt)) $ pass1 ! (init ! 20 refl (fit .0)) $ pass1 ! (init ! 18 refl (fit .1 .0)) $ pass1 ! (init ! 16 refl (fit .1 .1 .0)) $ pass1 ! (init ! 14 refl (fit .1 .1 .1 .0)) $ pass0 ! $
+      move ! (26 ∷ 27 ∷ 28 ∷ []) $ lends-reader ! tt b o h (λ was ν δ.
+      -- [the loan's token; the reference; what is kept; _12 at 3; _11; _10; _9; _8; _7; _6 at 15; _5; _4; _3; _2; _1 at 25; _0 at 27; the tokens at 29; the slices]
+      assigns ! (addr ! (from ! (hop ! (look ! 25 refl) (fld ! refl (stop !))))) (from ! (stop !)) (init ! 15 refl (tt, tt)) $
+      assigns ! (addr ! (from ! (fld ! refl (hop ! (look-in ! 21 (sub ! 0 refl (whole !))) (stop !))))) (from ! (stop !)) (init ! 13 refl (tt, tt)) $
+      assigns ! (agg ! (and-then ! (load ! (from ! (stop !)) (look ! 13 refl)) (and-then ! (load ! (from ! (fld ! refl (stop !))) (look-in ! 21 (sub ! 1 refl (whole !)))) (no-more !)))) (from ! (stop !)) (init ! 11 refl (fit .1 .0)) $
+      assigns ! (addr ! (from ! (fld ! refl (hop ! (look-in ! 19 (sub ! 0 refl (whole !))) (stop !))))) (from ! (stop !)) (init ! 9 refl (tt, tt)) $
+      assigns ! (agg ! (and-then ! (load ! (from ! (stop !)) (look ! 9 refl)) (and-then ! (load ! (from ! (fld ! refl (stop !))) (look-in ! 19 (sub ! 1 refl (whole !)))) (no-more !)))) (from ! (stop !)) (init ! 7 refl (fit .1 .1 .0)) $
+      assigns ! (addr ! (from ! (fld ! refl (hop ! (look-in ! 17 (sub ! 0 refl (whole !))) (stop !))))) (from ! (stop !)) (init ! 5 refl (tt, tt)) $
+      assigns ! (agg ! (and-then ! (load ! (from ! (stop !)) (look ! 5 refl)) (and-then ! (load ! (from ! (fld ! refl (stop !))) (look-in ! 17 (sub ! 1 refl (whole !)))) (no-more !)))) (from ! (stop !)) (init ! 3 refl (fit .1 .1 .1 .0)) $
+      move ! (0 ∷ 1 ∷ 29 ∷ 30 ∷ []) $
+      calls-in-place reader-struct E.the-row 4 four-of-five ! fm Feeds known ν δ b (o + d) (h .reader) (κs .1) (qs .1) (p, (s, (z, (w, tt)))) (sv p ∷ [], (sv s ∷ [], (sv z ∷ [], (sv w ∷ [], tt))))
+      (and-then ! (load ! (from ! (stop !)) (look ! 14 refl)) (and-then ! (load ! (from ! (stop !)) (look ! 22 refl)) (and-then ! (load ! (from ! (stop !)) (look ! 10 refl)) (and-then ! (load ! (from ! (stop !)) (look ! 6 refl)) (and-then ! (load ! (from ! (stop !)) (look ! 2 refl)) (no-more !)))))) (λ v r h′ ws e is.
+      -- [the loan's token; the reader's last value; the tokens; the slices; what is kept; _12 at 5; …; _0 at 29]
+      land ! (from ! (stop !)) (init ! 29 refl (EL.lawful E.the-type E′.the-laws 𝓤 H A W tt .typed r _ is .0)) $
       move ! (0 ∷ 1 ∷ 4 ∷ []) $ reader-back ! tt b o h h′ was $
-      returns ! (look ! 23 refl) $ forget ! 5 refl $ forget ! 7 refl $ forget ! 9 refl $ forget ! 11 refl $ forget ! 13 refl $ forget ! 15 refl $ forget ! 17 refl $ forget ! 19 refl $ forget ! 21 refl $ forget ! 23 refl $
-      move ! (23 ∷ 24 ∷ 21 ∷ 22 ∷ 19 ∷ 20 ∷ 17 ∷ 18 ∷ 15 ∷ 16 ∷ 13 ∷ 14 ∷ 11 ∷ 12 ∷ 9 ∷ 10 ∷ 7 ∷ 8 ∷ 5 ∷ 6 ∷ []) $ free1 ! $ free1 ! $ free1 ! $ free1 ! $ free1 ! $ free1 ! $ free1 ! $ free1 ! $ free1 ! $ free1 ! $ free0 ! $
-      ends-in-place connection-struct E.the-row 3 three-of-four 𝓤 H A W (f.clauses 𝓤 H A at-mem run) κs qs b o γ h (p, (s, (w, tt))) tt ! v r (with-reader h h′) ws (factI 𝓤 _ (emp 𝓤) (e, record { same-id = refl; same-deadline = refl })) (EL.makes E.the-type E′.the-plain 𝓤 H A) is))))))))))))
+      returns ! (look ! 29 refl) $ forget ! 5 refl $ forget ! 7 refl $ forget ! 9 refl $ forget ! 11 refl $ forget ! 13 refl $ forget ! 15 refl $ forget ! 17 refl $ forget ! 19 refl $ forget ! 21 refl $ forget ! 23 refl $ forget ! 25 refl $ forget ! 27 refl $ forget ! 29 refl $
+      move ! (29 ∷ 30 ∷ 27 ∷ 28 ∷ 25 ∷ 26 ∷ 23 ∷ 24 ∷ 21 ∷ 22 ∷ 19 ∷ 20 ∷ 17 ∷ 18 ∷ 15 ∷ 16 ∷ 13 ∷ 14 ∷ 11 ∷ 12 ∷ 9 ∷ 10 ∷ 7 ∷ 8 ∷ 5 ∷ 6 ∷ []) $ free1 ! $ free1 ! $ free1 ! $ free1 ! $ free1 ! $ free1 ! $ free1 ! $ free1 ! $ free1 ! $ free1 ! $ free1 ! $ free1 ! $ free1 ! $ free0 ! $
+      ends-in-place connection-struct E.the-row 4 four-of-five 𝓤 H A W (f.clauses 𝓤 H A at-mem run) κs qs b o γ h (p, (s, (z, (w, tt)))) tt ! v r (with-reader h h′) ws (factI 𝓤 _ (emp 𝓤) (e, record { same-id = refl; same-deadline = refl })) (EL.makes E.the-type E′.the-plain 𝓤 H A) is)))))))))))))))
 
 pub feed-connection-spec : {M : Type 1} → stated.statement M
 unfolding code.routine
 feed-connection-spec 𝓤 H 𝓜 𝓖 𝓡 =
-    meets-in-place connection-struct E.the-row 3 three-of-four 𝓤 H 𝓜 𝓖 𝓡 (f.clauses 𝓤 H (𝓖 .A) (𝓜 .mem) (𝓡 .run)) code.env #f code.function (code.unfolded 𝓤 H 𝓜 𝓡)
+    meets-in-place connection-struct E.the-row 4 four-of-five 𝓤 H 𝓜 𝓖 𝓡 (f.clauses 𝓤 H (𝓖 .A) (𝓜 .mem) (𝓡 .run)) code.env #f code.function (code.unfolded 𝓤 H 𝓜 𝓡)
     (λ fm κs qs b o γ h a g are. walk 𝓤 H (𝓖 .A) (givenOf 𝓤 H 𝓜 𝓖) (𝓜 .mem) (𝓡 .run) (tables 𝓤 H 𝓜 𝓡 code.env .C) (tables 𝓤 H 𝓜 𝓡 code.env .Λ) fm
-    (cited 𝓤 H _ 𝓜 𝓡 code.env #g g-def.routine code.calls-host·reader·feed-in-place (g-thm.met 𝓤 H 𝓜 𝓖 𝓡)) κs qs b o γ h (a .0) (a .1 .0) (a .1 .1 .0)
-    (buffers-fit 4 1 2 3 tt tt tt 𝓤 H (𝓖 .A) (givenOf 𝓤 H 𝓜 𝓖) κs a _ are))
+    (cited 𝓤 H _ 𝓜 𝓡 code.env #g g-def.routine code.calls-host·reader·feed-in-place (g-thm.met 𝓤 H 𝓜 𝓖 𝓡)) κs qs b o γ h (a .0) (a .1 .0) (a .1 .1 .0) (a .1 .1 .1 .0)
+    (others-fit four-of-five 𝓤 H (𝓖 .A) (givenOf 𝓤 H 𝓜 𝓖) κs a _ are))

@@ -22,5 +22,5 @@ unfolding code.routine
 feed-connection-by-value-spec 𝓤 H 𝓜 𝓖 𝓡 =
     adapted connection-struct
     (record { whole = record { type = P.the-type; laws = P′.the-laws; plain = P′.the-plain; last = λ x. tt; silent = λ x l. refl }; made = λ x a. record { connection = x; answer = a }; made-is = λ x a x-is a-is. LL.owes P.the-type P′.the-laws (record { connection = x; answer = a }) (x-is, (a-is, tt)) })
-    #g FeedsIn 𝓤 H 𝓜 𝓖 𝓡 (f.clauses 𝓤 H (𝓖 .A) (𝓜 .mem) (𝓡 .run)) (λ κ κs x p s w r y gs ws g said. factI 𝓤 _ (emp 𝓤) said) code.env #f (code.unfolded 𝓤 H 𝓜 𝓡)
+    #g FeedsIn 𝓤 H 𝓜 𝓖 𝓡 (f.clauses 𝓤 H (𝓖 .A) (𝓜 .mem) (𝓡 .run)) (λ κ κs x p s z w r y gs zs ws g said. factI 𝓤 _ (emp 𝓤) said) code.env #f (code.unfolded 𝓤 H 𝓜 𝓡)
     (cited 𝓤 H _ 𝓜 𝓡 code.env #g g-def.routine code.calls-host·reader·feed-connection (g-thm.met 𝓤 H 𝓜 𝓖 𝓡))

@@ -1,109 +1,118 @@
 use native.Mathlib.Omega.{arith}
 use mathlib.Core.Path.{_≡_, sym, _∙_}
-use mathlib.Core.Bool.{true}
-use lib.ListN.{length}
 use borrow.Author.Tests.{not-true, not-false}
-use Rattle.capsule.specs.declared.reader.Phase.the-variants.{InValue}
-use Rattle.capsule.specs.declared.reader.Verdict.the-variants.{Accepted}
-use Rattle.capsule.specs.Reader.{isMakeablePhase, verdictOf}
-use Rattle.capsule.specs.Short.{inValue}
-use Rattle.capsule.proofs.Planning.{forwards-role, gathers-limit, makeable-value}
+use Rattle.capsule.proofs.Planning.{forwards-role, gathers-limit, extent-most, makeable-value}
 use Rattle.capsule.proofs.Verdicts.{accepts}
-use Rattle.capsule.proofs.ShortWays.{large-limit, made-by, value-verdict, inside-refused, inside-unmade, inside-ended, inside-taken}
+use Rattle.capsule.proofs.ShortWays.{large-limit, made-by, value-verdict, inside-address, inside-refused, inside-unmade, inside-ended, inside-taken}
 use borrow.Author.Needs.{needs}
 use Rattle.capsule.proofs.opening.Opening.feed_inside.Statement.{statement}
 use Rattle.capsule.proofs.opening.Opening.feed_inside.Tie as tie
 
--- what is known behind the tests
-made : (c : tie.Else2) → isMakeablePhase (InValue (c .before .before .before .before .before .before .before .args .ctype) (c .before .before .before .before .before .before .before .args .size) (c .before .before .before .before .before .before .before .args .left)) ≡ true
-made c = sym (c .before .is-makeable-value .ensures) ∙ not-false _ (c .if2 .left)
-
-accepted : (c : tie.After-enum-told2)
-    → verdictOf (inValue (c .before .before .before .before .before .before .before .before .before .before .args .self) (c .before .before .before .before .before .before .before .before .before .before .args .ctype) (c .before .before .before .before .before .before .before .before .before .before .args .size) (c .before .before .before .before .before .before .before .before .before .before .args .left)) (length (c .before .before .before .before .before .before .before .before .before .before .args .piece .now)) (length (c .before .before .before .before .before .before .before .before .before .before .args .gathering .now)) (length (c .before .before .before .before .before .before .before .before .before .before .args .output .now)) ≡ Accepted
-accepted c = sym (value-verdict _ _ _ _ (c .before .before .before .before .before .if1 .left) _ (sym (c .enum-told2 .given .1) ∙ c .before .before .verdict .ensures) _ _ _ (made (c .before .before .before)))
-
+-- src/short.rt:141:13
 returns : tie.Need-returns
 returns c = inside-unmade _ _ _ _ _ _ (large-limit _ (c .if1 .taken))
 
+-- src/short.rt:143:13
+is-plain-requires : tie.Need-is-plain-requires
+is-plain-requires c κs = search needs
+
+-- src/short.rt:144:13
+returns-2 : tie.Need-returns-2
+returns-2 c = inside-address _ _ _ _ _ _ (sym (c .before .is-plain .ensures) ∙ not-true _ (c .if2 .taken))
+
+-- src/short.rt:146:13
 is-makeable-value-requires : tie.Need-is-makeable-value-requires
 is-makeable-value-requires c κs = search needs
 
-returns-2 : tie.Need-returns-2
-returns-2 c = inside-unmade _ _ _ _ _ _ (made-by _ _ (c .before .before .if1 .left) (sym (c .before .is-makeable-value .ensures) ∙ not-true _ (c .if2 .taken)))
+-- src/short.rt:147:13
+returns-3 : tie.Need-returns-3
+returns-3 c = inside-unmade _ _ _ _ _ _ (made-by _ _ (c .before .before .before .before .if1 .left) (sym (c .before .is-makeable-value .ensures) ∙ not-true _ (c .if3 .taken)))
 
+-- src/short.rt:150:13
 verdict-requires : tie.Need-verdict-requires
 verdict-requires c κs = search needs
 
+-- src/short.rt:152:36
 enum-told : tie.Need-enum-told
 enum-told c = search needs
 
+-- src/short.rt:154:21
 enum-told-2 : tie.Need-enum-told-2
 enum-told-2 c = search needs
 
+-- src/short.rt:154:21
 gathers-requires : tie.Need-gathers-requires
 gathers-requires c κs = search needs
 
+-- src/short.rt:155:21
 forwards-requires : tie.Need-forwards-requires
 forwards-requires c κs = search needs
 
+-- src/short.rt:158:66
 sub-store-bytes : tie.Need-sub-store-bytes
-sub-store-bytes c = makeable-value _ _ _ (made (c .before .before .before .before .before .before .before))
+sub-store-bytes c = omega (arith, makeable-value _ _ _ _ (sym (c .before .before .before .before .before .before .before .before .is-makeable-value .ensures) ∙ not-false _ (c .before .before .before .before .before .before .before .if3 .left)), extent-most (c .before .before .before .before .before .before .before .before .before .before .before .before .before .before .before .before .before .args .self) (c .before .before .before .before .before .before .before .before .before .before .before .before .before .before .before .before .before .args .ctype) (c .before .before .before .before .before .before .before .before .before .before .before .before .before .before .before .before .before .args .size))
 
+-- src/short.rt:158:21
 store-bytes-requires : tie.Need-store-bytes-requires
-store-bytes-requires c κs =
-    let fits = makeable-value _ _ _ (made (c .before .before .before .before .before .before .before)) in
-    (omega arith, c .before .if3 .taken, λ s. omega (arith, fits, gathers-limit _ _ _ (sym (c .before .before .before .gathers .ensures) ∙ s), accepts _ _ _ _ (accepted (c .before .before .before .before)) .gathers))
+store-bytes-requires c κs = (omega arith, c .before .if4 .taken, λ s. omega (arith, makeable-value _ _ _ _ (sym (c .before .before .before .before .before .before .before .before .is-makeable-value .ensures) ∙ not-false _ (c .before .before .before .before .before .before .before .if3 .left)), extent-most (c .before .before .before .before .before .before .before .before .before .before .before .before .before .before .before .before .before .args .self) (c .before .before .before .before .before .before .before .before .before .before .before .before .before .before .before .before .before .args .ctype) (c .before .before .before .before .before .before .before .before .before .before .before .before .before .before .before .before .before .args .size), gathers-limit _ _ _ (sym (c .before .before .before .gathers .ensures) ∙ s) .1, gathers-limit _ _ _ (sym (c .before .before .before .gathers .ensures) ∙ s) .0, accepts _ _ _ _ _ (sym (value-verdict _ _ _ _ _ (c .before .before .before .before .before .before .before .before .before .before .before .if1 .left) _ (sym (c .before .before .before .before .enum-told2 .given .1) ∙ c .before .before .before .before .before .before .verdict .ensures) _ _ _ (sym (c .before .before .before .before .before .before .before .before .is-makeable-value .ensures) ∙ not-false _ (c .before .before .before .before .before .before .before .if3 .left)))) .gathers))
 
+-- src/short.rt:159:25
 forward-bytes-requires : tie.Need-forward-bytes-requires
-forward-bytes-requires c κs =
-    let ends = c .before .before .before .before .before .if3 .taken in
-    (ends, omega arith, λ w. omega (arith, ends, accepts _ _ _ _ (accepted (c .before .before .before .before .before .before .before .before)) .forwards (forwards-role _ _ (sym (c .before .before .before .before .before .before .forwards .ensures) ∙ w))))
+forward-bytes-requires c κs = (c .before .before .before .before .before .if4 .taken, omega arith, λ w. omega (arith, c .before .before .before .before .before .if4 .taken, accepts _ _ _ _ _ (sym (value-verdict _ _ _ _ _ (c .before .before .before .before .before .before .before .before .before .before .before .before .before .before .before .if1 .left) _ (sym (c .before .before .before .before .before .before .before .before .enum-told2 .given .1) ∙ c .before .before .before .before .before .before .before .before .before .before .verdict .ensures) _ _ _ (sym (c .before .before .before .before .before .before .before .before .before .before .before .before .is-makeable-value .ensures) ∙ not-false _ (c .before .before .before .before .before .before .before .before .before .before .before .if3 .left)))) .forwards (forwards-role _ _ (sym (c .before .before .before .before .before .before .forwards .ensures) ∙ w))))
 
+-- src/short.rt:163:33
 report-requires : tie.Need-report-requires
 report-requires c κs = search needs
 
+-- src/short.rt:160:21
 same-length : tie.Need-same-length
 same-length c = search needs
 
+-- src/short.rt:160:21
 same-length-2 : tie.Need-same-length-2
 same-length-2 c = search needs
 
-returns-3 : tie.Need-returns-3
-returns-3 c =
-    inside-ended _ _ _ _ _ _ (accepted (c .before .before .before .before .before .before .before .before .before .before .before .before)) _ _ (c .before .before .before .before .before .before .before .before .before .before .before .gathers .ensures) (c .before .before .before .before .before .before .before .before .before .before .forwards .ensures) _ _ _ (c .before .before .before .before .before .before .before .before .before .if3 .taken) _ (c .report .ensures) (c .before .before .before .before .before .before .before .store-bytes .ensures) (c .before .before .before .forward-bytes .ensures)
-
-sub-store-bytes-2 : tie.Need-sub-store-bytes-2
-sub-store-bytes-2 c = makeable-value _ _ _ (made (c .before .before .before .before .before .before .before))
-
-store-bytes-requires-2 : tie.Need-store-bytes-requires-2
-store-bytes-requires-2 c κs =
-    let fits = makeable-value _ _ _ (made (c .before .before .before .before .before .before .before)) in
-    (omega arith, omega arith, λ s. omega (arith, fits, c .before .if3 .left, gathers-limit _ _ _ (sym (c .before .before .before .gathers .ensures) ∙ s), accepts _ _ _ _ (accepted (c .before .before .before .before)) .gathers))
-
-forward-bytes-requires-2 : tie.Need-forward-bytes-requires-2
-forward-bytes-requires-2 c κs =
-    (omega arith, omega arith, λ w. omega (arith, accepts _ _ _ _ (accepted (c .before .before .before .before .before .before .before .before)) .forwards (forwards-role _ _ (sym (c .before .before .before .before .before .before .forwards .ensures) ∙ w))))
-
+-- src/short.rt:160:21
 returns-4 : tie.Need-returns-4
-returns-4 c = inside-refused _ _ _ _ _ _ _ (value-verdict _ _ _ _ (c .before .before .before .before .before .if1 .left) _ (sym (c .enum-told .given .1) ∙ c .before .before .verdict .ensures) _ _ _ (made (c .before .before .before)))
+returns-4 c = inside-ended _ _ _ _ _ _ (sym (c .before .before .before .before .before .before .before .before .before .before .before .before .before .before .before .before .before .before .is-plain .ensures) ∙ not-false _ (c .before .before .before .before .before .before .before .before .before .before .before .before .before .before .before .before .before .if2 .left)) (sym (value-verdict _ _ _ _ _ (c .before .before .before .before .before .before .before .before .before .before .before .before .before .before .before .before .before .before .before .if1 .left) _ (sym (c .before .before .before .before .before .before .before .before .before .before .before .before .enum-told2 .given .1) ∙ c .before .before .before .before .before .before .before .before .before .before .before .before .before .before .verdict .ensures) _ _ _ (sym (c .before .before .before .before .before .before .before .before .before .before .before .before .before .before .before .before .is-makeable-value .ensures) ∙ not-false _ (c .before .before .before .before .before .before .before .before .before .before .before .before .before .before .before .if3 .left)))) _ _ (c .before .before .before .before .before .before .before .before .before .before .before .gathers .ensures) (c .before .before .before .before .before .before .before .before .before .before .forwards .ensures) _ _ _ (c .before .before .before .before .before .before .before .before .before .if4 .taken) _ (c .report .ensures) (c .before .before .before .before .before .before .before .store-bytes .ensures) (c .before .before .before .forward-bytes .ensures)
 
+-- src/short.rt:166:60
+sub-store-bytes-2 : tie.Need-sub-store-bytes-2
+sub-store-bytes-2 c = omega (arith, makeable-value _ _ _ _ (sym (c .before .before .before .before .before .before .before .before .is-makeable-value .ensures) ∙ not-false _ (c .before .before .before .before .before .before .before .if3 .left)), extent-most (c .before .before .before .before .before .before .before .before .before .before .before .before .before .before .before .before .before .args .self) (c .before .before .before .before .before .before .before .before .before .before .before .before .before .before .before .before .before .args .ctype) (c .before .before .before .before .before .before .before .before .before .before .before .before .before .before .before .before .before .args .size))
+
+-- src/short.rt:166:17
+store-bytes-requires-2 : tie.Need-store-bytes-requires-2
+store-bytes-requires-2 c κs = (omega arith, omega arith, λ s. omega (arith, c .before .if4 .left, makeable-value _ _ _ _ (sym (c .before .before .before .before .before .before .before .before .is-makeable-value .ensures) ∙ not-false _ (c .before .before .before .before .before .before .before .if3 .left)), extent-most (c .before .before .before .before .before .before .before .before .before .before .before .before .before .before .before .before .before .args .self) (c .before .before .before .before .before .before .before .before .before .before .before .before .before .before .before .before .before .args .ctype) (c .before .before .before .before .before .before .before .before .before .before .before .before .before .before .before .before .before .args .size), gathers-limit _ _ _ (sym (c .before .before .before .gathers .ensures) ∙ s) .1, gathers-limit _ _ _ (sym (c .before .before .before .gathers .ensures) ∙ s) .0, accepts _ _ _ _ _ (sym (value-verdict _ _ _ _ _ (c .before .before .before .before .before .before .before .before .before .before .before .if1 .left) _ (sym (c .before .before .before .before .enum-told2 .given .1) ∙ c .before .before .before .before .before .before .verdict .ensures) _ _ _ (sym (c .before .before .before .before .before .before .before .before .is-makeable-value .ensures) ∙ not-false _ (c .before .before .before .before .before .before .before .if3 .left)))) .gathers))
+
+-- src/short.rt:167:21
+forward-bytes-requires-2 : tie.Need-forward-bytes-requires-2
+forward-bytes-requires-2 c κs = (omega arith, omega arith, λ w. omega (arith, accepts _ _ _ _ _ (sym (value-verdict _ _ _ _ _ (c .before .before .before .before .before .before .before .before .before .before .before .before .before .before .before .if1 .left) _ (sym (c .before .before .before .before .before .before .before .before .enum-told2 .given .1) ∙ c .before .before .before .before .before .before .before .before .before .before .verdict .ensures) _ _ _ (sym (c .before .before .before .before .before .before .before .before .before .before .before .before .is-makeable-value .ensures) ∙ not-false _ (c .before .before .before .before .before .before .before .before .before .before .before .if3 .left)))) .forwards (forwards-role _ _ (sym (c .before .before .before .before .before .before .forwards .ensures) ∙ w))))
+
+-- src/short.rt:128:5
+returns-5 : tie.Need-returns-5
+returns-5 c = inside-refused _ _ _ _ _ _ _ (value-verdict _ _ _ _ _ (c .before .before .before .before .before .before .before .if1 .left) _ (sym (c .enum-told .given .1) ∙ c .before .before .verdict .ensures) _ _ _ (sym (c .before .before .before .before .is-makeable-value .ensures) ∙ not-false _ (c .before .before .before .if3 .left)))
+
+-- src/short.rt:128:5
 same-length-3 : tie.Need-same-length-3
 same-length-3 c = search needs
 
+-- src/short.rt:128:5
 same-length-4 : tie.Need-same-length-4
 same-length-4 c = search needs
 
-returns-5 : tie.Need-returns-5
-returns-5 c =
-    inside-taken _ _ _ _ _ _ (accepted (c .before .before .before .before .before .before .before .before .before .before .before)) _ _ (c .before .before .before .before .before .before .before .before .before .before .gathers .ensures) (c .before .before .before .before .before .before .before .before .before .forwards .ensures) _ _ _ (c .before .before .before .before .before .before .before .before .if3 .left) (c .before .before .before .before .before .before .store-bytes2 .ensures) (c .before .before .forward-bytes2 .ensures)
+-- src/short.rt:128:5
+returns-6 : tie.Need-returns-6
+returns-6 c = inside-taken _ _ _ _ _ _ (sym (c .before .before .before .before .before .before .before .before .before .before .before .before .before .before .before .before .before .is-plain .ensures) ∙ not-false _ (c .before .before .before .before .before .before .before .before .before .before .before .before .before .before .before .before .if2 .left)) (sym (value-verdict _ _ _ _ _ (c .before .before .before .before .before .before .before .before .before .before .before .before .before .before .before .before .before .before .if1 .left) _ (sym (c .before .before .before .before .before .before .before .before .before .before .before .enum-told2 .given .1) ∙ c .before .before .before .before .before .before .before .before .before .before .before .before .before .verdict .ensures) _ _ _ (sym (c .before .before .before .before .before .before .before .before .before .before .before .before .before .before .before .is-makeable-value .ensures) ∙ not-false _ (c .before .before .before .before .before .before .before .before .before .before .before .before .before .before .if3 .left)))) _ _ (c .before .before .before .before .before .before .before .before .before .before .gathers .ensures) (c .before .before .before .before .before .before .before .before .before .forwards .ensures) _ _ _ (c .before .before .before .before .before .before .before .before .if4 .left) (c .before .before .before .before .before .before .store-bytes2 .ensures) (c .before .before .forward-bytes2 .ensures)
 
 pub feed-inside-spec : {M : Type 1} → statement M
 feed-inside-spec =
     tie.close
     (tie.spec
     returns
-    is-makeable-value-requires
+    is-plain-requires
     returns-2
+    is-makeable-value-requires
+    returns-3
     verdict-requires
     enum-told
     enum-told-2
@@ -115,11 +124,11 @@ feed-inside-spec =
     report-requires
     same-length
     same-length-2
-    returns-3
+    returns-4
     sub-store-bytes-2
     store-bytes-requires-2
     forward-bytes-requires-2
-    returns-4
+    returns-5
     same-length-3
     same-length-4
-    returns-5)
+    returns-6)

@@ -7,66 +7,69 @@ use borrow.Author.Needs.{needs}
 use Rattle.capsule.proofs.opening.Opening.take_whole.Statement.{statement}
 use Rattle.capsule.proofs.opening.Opening.take_whole.Tie as tie
 
+-- src/short.rt:81:13
 gathers-requires : tie.Need-gathers-requires
 gathers-requires c κs = search needs
 
+-- src/short.rt:82:13
 forwards-requires : tie.Need-forwards-requires
 forwards-requires c κs = search needs
 
+-- src/short.rt:83:21
 sub-room : tie.Need-sub-room
 sub-room c = search needs
 
+-- src/short.rt:86:13
 store-bytes-requires : tie.Need-store-bytes-requires
-store-bytes-requires c κs =
-    let pre = c .before .before .before .before .before .before .before .pre in
-    (pre .2, omega arith, λ s. omega (arith, pre .2, c .before .if1 .taken, gathers-limit _ _ _ (sym (c .before .before .before .gathers .ensures) ∙ s), accepts _ _ _ _ (pre .0) .gathers))
+store-bytes-requires c κs = (c .before .before .before .before .before .before .before .before .pre .3, omega arith, λ s. omega (arith, c .before .before .before .before .before .before .before .before .pre .3, c .before .if1 .taken, gathers-limit _ _ _ (sym (c .before .before .before .gathers .ensures) ∙ s) .1, accepts _ _ _ _ _ (c .before .before .before .before .before .before .before .before .pre .0) .gathers))
 
+-- src/short.rt:87:17
 forward-bytes-requires : tie.Need-forward-bytes-requires
-forward-bytes-requires c κs =
-    let pre = c .before .before .before .before .before .before .before .before .before .before .before .pre in
-    (omega arith, omega arith, λ w. omega (arith, accepts _ _ _ _ (pre .0) .forwards (forwards-role _ _ (sym (c .before .before .before .before .before .before .forwards .ensures) ∙ w))))
+forward-bytes-requires c κs = (omega arith, omega arith, λ w. omega (arith, accepts _ _ _ _ _ (c .before .before .before .before .before .before .before .before .before .before .before .before .pre .0) .forwards (forwards-role _ _ (sym (c .before .before .before .before .before .before .forwards .ensures) ∙ w))))
 
-sub-t24 : tie.Need-sub-t24
-sub-t24 c = search needs
+-- src/short.rt:92:23
+sub-t25 : tie.Need-sub-t25
+sub-t25 c = search needs
 
+-- src/short.rt:88:13
 same-length : tie.Need-same-length
 same-length c = search needs
 
+-- src/short.rt:88:13
 same-length-2 : tie.Need-same-length-2
 same-length-2 c = search needs
 
+-- src/short.rt:88:13
 returns : tie.Need-returns
-returns c =
-    let pre = c .before .before .before .before .before .before .before .before .before .before .before .before .before .before .pre in
-    whole-cut _ _ _ _ _ _ (pre .1) (c .before .before .before .before .before .before .before .before .before .before .before .before .before .shared-slice-known .given 2 .fits) (pre .0) _ _ (c .before .before .before .before .before .before .before .before .before .before .gathers .ensures) (c .before .before .before .before .before .before .before .before .before .forwards .ensures) _ _ _ (c .before .before .before .before .before .before .before .before .if1 .taken) (c .before .before .before .before .before .before .store-bytes .ensures) (c .before .before .forward-bytes .ensures)
+returns c = whole-cut _ _ _ _ _ _ (c .before .before .before .before .before .before .before .before .before .before .before .before .before .before .before .pre .1) (c .before .before .before .before .before .before .before .before .before .before .before .before .before .before .before .pre .2) (c .before .before .before .before .before .before .before .before .before .before .before .before .before .before .shared-slice-known .given 2 .fits) (c .before .before .before .before .before .before .before .before .before .before .before .before .before .before .before .pre .0) _ _ (c .before .before .before .before .before .before .before .before .before .before .gathers .ensures) (c .before .before .before .before .before .before .before .before .before .forwards .ensures) _ _ _ (c .before .before .before .before .before .before .before .before .if1 .taken) (c .before .before .before .before .before .before .store-bytes .ensures) (c .before .before .forward-bytes .ensures)
 
+-- src/short.rt:95:19
 add-end : tie.Need-add-end
 add-end c = search needs
 
+-- src/short.rt:96:9
 store-bytes-requires-2 : tie.Need-store-bytes-requires-2
-store-bytes-requires-2 c κs =
-    let pre = c .before .before .before .before .before .before .before .pre in
-    (omega arith, omega (arith, pre .2, c .before .if1 .left), λ s. omega (arith, gathers-limit _ _ _ (sym (c .before .before .before .gathers .ensures) ∙ s), accepts _ _ _ _ (pre .0) .gathers))
+store-bytes-requires-2 c κs = (omega arith, omega (arith, c .before .before .before .before .before .before .before .before .pre .3, c .before .if1 .left), λ s. omega (arith, gathers-limit _ _ _ (sym (c .before .before .before .gathers .ensures) ∙ s) .1, accepts _ _ _ _ _ (c .before .before .before .before .before .before .before .before .pre .0) .gathers))
 
+-- src/short.rt:97:13
 forward-bytes-requires-2 : tie.Need-forward-bytes-requires-2
-forward-bytes-requires-2 c κs =
-    let pre = c .before .before .before .before .before .before .before .before .before .before .before .pre in
-    let fits = c .before .before .before .before .before .if1 .left in
-    (omega (arith, pre .2, fits), omega arith, λ w. omega (arith, pre .2, fits, accepts _ _ _ _ (pre .0) .forwards (forwards-role _ _ (sym (c .before .before .before .before .before .before .forwards .ensures) ∙ w))))
+forward-bytes-requires-2 c κs = (omega (arith, c .before .before .before .before .before .before .before .before .before .before .before .before .pre .3, c .before .before .before .before .before .if1 .left), omega arith, λ w. omega (arith, c .before .before .before .before .before .before .before .before .before .before .before .before .pre .3, c .before .before .before .before .before .if1 .left, accepts _ _ _ _ _ (c .before .before .before .before .before .before .before .before .before .before .before .before .pre .0) .forwards (forwards-role _ _ (sym (c .before .before .before .before .before .before .forwards .ensures) ∙ w))))
 
+-- src/short.rt:101:21
 report-requires : tie.Need-report-requires
 report-requires c κs = search needs
 
+-- src/short.rt:68:5
 same-length-3 : tie.Need-same-length-3
 same-length-3 c = search needs
 
+-- src/short.rt:68:5
 same-length-4 : tie.Need-same-length-4
 same-length-4 c = search needs
 
+-- src/short.rt:68:5
 returns-2 : tie.Need-returns-2
-returns-2 c =
-    let pre = c .before .before .before .before .before .before .before .before .before .before .before .before .before .before .before .pre in
-    whole-taken _ _ _ _ _ _ (pre .1) (c .before .before .before .before .before .before .before .before .before .before .before .before .before .before .shared-slice-known .given 2 .fits) (pre .0) _ _ (c .before .before .before .before .before .before .before .before .before .before .before .gathers .ensures) (c .before .before .before .before .before .before .before .before .before .before .forwards .ensures) _ _ _ (c .before .before .before .before .before .before .before .before .before .if1 .left) _ (c .report .ensures) (c .before .before .before .before .before .before .before .store-bytes2 .ensures) (c .before .before .before .forward-bytes2 .ensures)
+returns-2 c = whole-taken _ _ _ _ _ _ (c .before .before .before .before .before .before .before .before .before .before .before .before .before .before .before .before .pre .1) (c .before .before .before .before .before .before .before .before .before .before .before .before .before .before .before .before .pre .2) (c .before .before .before .before .before .before .before .before .before .before .before .before .before .before .before .shared-slice-known .given 2 .fits) (c .before .before .before .before .before .before .before .before .before .before .before .before .before .before .before .before .pre .0) _ _ (c .before .before .before .before .before .before .before .before .before .before .before .gathers .ensures) (c .before .before .before .before .before .before .before .before .before .before .forwards .ensures) _ _ _ (c .before .before .before .before .before .before .before .before .before .if1 .left) _ (c .report .ensures) (c .before .before .before .before .before .before .before .store-bytes2 .ensures) (c .before .before .before .forward-bytes2 .ensures)
 
 pub take-whole-spec : {M : Type 1} → statement M
 take-whole-spec =
@@ -77,7 +80,7 @@ take-whole-spec =
     sub-room
     store-bytes-requires
     forward-bytes-requires
-    sub-t24
+    sub-t25
     same-length
     same-length-2
     returns

@@ -9,38 +9,58 @@ use Rattle.capsule.proofs.reader.Reader.take.Statement.{statement}
 use Rattle.capsule.proofs.reader.Reader.take.Tie as tie
 
 -- what is known at the entry, of the held bytes and of the plan
-accepted : (c : tie.Start) → Accepts (c .args .self) (length (c .args .piece .now)) (length (c .args .gathering .now)) (length (c .args .output .now))
-accepted c = accepts _ _ _ _ (c .pre)
+accepted : (c : tie.Start) → Accepts (c .args .self) (length (c .args .piece .now)) (length (c .args .gathering .now)) (length (c .args .addresses .now)) (length (c .args .output .now))
+accepted c = accepts _ _ _ _ _ (c .pre)
 
 held : (c : tie.After-held-of) → c .held-of .result .have ≤ 7
-held c = rw (c .held-of .ensures) (held-few _ (accepted (c .before .before .before .before .before) .phase))
+held c = rw (c .held-of .ensures) (held-few _ _ (accepted (c .before .before .before .before .before .before) .phase))
 
-fits : (c : tie.After-plan-of) → Fits (c .before .before .before .before .before .before .args .self .opening) (c .before .before .before .before .before .before .args .piece .now) (c .plan-of .result)
-fits c = rw (c .plan-of .ensures) (plan-fits _ _ _ (accepted (c .before .before .before .before .before .before) .phase))
+fits : (c : tie.After-plan-of) → Fits (c .before .before .before .before .before .before .before .args .self .opening) (c .before .before .before .before .before .before .before .args .piece .now) (c .plan-of .result)
+fits c = rw (c .plan-of .ensures) (plan-fits _ _ _ (accepted (c .before .before .before .before .before .before .before) .phase))
 
+-- src/reader.rt:200:13
 held-of-requires : tie.Need-held-of-requires
 held-of-requires c κs = search needs
 
+-- src/reader.rt:201:13
 plan-of-requires : tie.Need-plan-of-requires
-plan-of-requires c κs = accepted (c .before .before .before .before .before) .phase
+plan-of-requires c κs = accepted (c .before .before .before .before .before .before) .phase
 
+-- src/reader.rt:202:9
 store-bytes-requires : tie.Need-store-bytes-requires
-store-bytes-requires c κs = let f = fits (c .before) in (f .starts, f .within, λ s. omega (arith, f .stores s, accepted (c .before .before .before .before .before .before .before) .gathers))
+store-bytes-requires c κs = let f = fits (c .before) in (f .starts, f .within, λ s. omega (arith, f .stores s, accepted (c .before .before .before .before .before .before .before .before) .gathers))
 
+-- src/reader.rt:210:9
+store-bytes-requires-2 : tie.Need-store-bytes-requires-2
+store-bytes-requires-2 c κs = let f = fits (c .before .before .before .before .before) in (f .starts, f .within, λ s. omega (arith, f .keeps s, accepted (c .before .before .before .before .before .before .before .before .before .before .before .before) .keeps (f .opts s)))
+
+-- src/reader.rt:218:13
 forward-bytes-requires : tie.Need-forward-bytes-requires
-forward-bytes-requires c κs =
-    let f = fits (c .before .before .before .before .before) in
-    let h = held (c .before .before .before .before .before .before) in
-    (f .within, omega arith, λ w. omega (arith, f .within, accepted (c .before .before .before .before .before .before .before .before .before .before .before) .forwards (f .forwards w)))
+forward-bytes-requires c κs = let f = fits (c .before .before .before .before .before .before .before .before .before) in let h = held (c .before .before .before .before .before .before .before .before .before .before) in (f .within, omega arith, λ w. omega (arith, f .within, accepted (c .before .before .before .before .before .before .before .before .before .before .before .before .before .before .before .before) .forwards (f .forwards w)))
 
+-- src/reader.rt:221:13
+judge-requires : tie.Need-judge-requires
+judge-requires c κs = search needs
+
+-- src/reader.rt:222:13
+is-last-requires : tie.Need-is-last-requires
+is-last-requires c κs = search needs
+
+-- src/reader.rt:194:5
 same-length : tie.Need-same-length
 same-length c = search needs
 
+-- src/reader.rt:194:5
 same-length-2 : tie.Need-same-length-2
 same-length-2 c = search needs
 
+-- src/reader.rt:194:5
+same-length-3 : tie.Need-same-length-3
+same-length-3 c = search needs
+
+-- src/reader.rt:194:5
 returns : tie.Need-returns
-returns c = takes _ _ _ _ _ _ _ _ (c .before .before .before .before .before .before .before .before .before .held-of .ensures) (c .before .before .before .before .before .before .before .before .plan-of .ensures) (c .before .before .before .before .before .before .store-bytes .ensures) (c .before .before .forward-bytes .ensures)
+returns c = takes _ _ _ _ _ _ _ _ _ _ _ (c .before .before .before .before .before .before .before .before .before .before .before .before .before .before .before .before .held-of .ensures) (c .before .before .before .before .before .before .before .before .before .before .before .before .before .before .before .plan-of .ensures) (c .before .before .before .before .before .before .before .before .before .before .before .before .before .store-bytes .ensures) (c .before .before .before .before .before .before .before .before .before .store-bytes2 .ensures) (c .before .before .before .before .before .forward-bytes .ensures) (c .before .judge .ensures) (c .is-last .ensures)
 
 pub take-spec : {M : Type 1} → statement M
 take-spec =
@@ -49,7 +69,11 @@ take-spec =
     held-of-requires
     plan-of-requires
     store-bytes-requires
+    store-bytes-requires-2
     forward-bytes-requires
+    judge-requires
+    is-last-requires
     same-length
     same-length-2
+    same-length-3
     returns)

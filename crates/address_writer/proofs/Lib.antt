@@ -1,0 +1,7 @@
+pub mod Rows
+pub mod Putting
+pub mod Writing
+pub mod Capsules
+pub mod ReadBack
+pub mod Answers
+pub mod Cases

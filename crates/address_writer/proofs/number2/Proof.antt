@@ -1,0 +1,32 @@
+use native.Mathlib.Omega.{arith}
+use mathlib.Core.Path.{_∙_}
+use Prim.Native.Nat.{_+_}
+use Rattle.address_writer.proofs.Rows.{little-one, little-halves}
+use borrow.Author.Needs.{needs}
+use Rattle.address_writer.proofs.number2.Statement.{statement}
+use Rattle.address_writer.proofs.number2.Tie as tie
+
+mul-result : tie.Need-mul-result
+mul-result c = let at = c .before .before .before .before .before .args .at in omega (arith, c .before .shared-slice-known3 .given (at + 1), c .wide2 .ensures)
+
+add-result : tie.Need-add-result
+add-result c = let at = c .before .before .before .before .before .args .at in omega (arith, c .before .shared-slice-known3 .given at, c .before .shared-slice-known3 .given (at + 1), c .before .before .wide .ensures, c .wide2 .ensures)
+
+returns : tie.Need-returns
+returns c = let a = c .before .before .before .before .before .args in (
+  little-halves (a .s .now) (a .at) 1 1 (c .before .before .wide .result) (c .wide2 .result) (omega arith) (c .before .before .wide .ensures ∙ little-one (a .s .now) (a .at) (omega arith)) (c .wide2 .ensures ∙ little-one (a .s .now) (a .at + 1) (omega arith)),
+  omega (arith, c .before .shared-slice-known3 .given (a .at), c .before .shared-slice-known3 .given (a .at + 1), c .before .before .wide .ensures, c .wide2 .ensures),
+)
+
+pub number2-spec : {M : Type 1} → statement M
+number2-spec =
+    tie.close
+    (tie.spec
+    (λ c. search needs)
+    (λ c κs. search needs)
+    (λ c. search needs)
+    (λ c. search needs)
+    (λ c κs. search needs)
+    mul-result
+    add-result
+    returns)

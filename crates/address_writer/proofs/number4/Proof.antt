@@ -1,0 +1,13 @@
+use native.Mathlib.Omega.{arith}
+use Rattle.address_writer.proofs.Rows.{little-halves}
+use borrow.Author.Needs.{needs}
+use Rattle.address_writer.proofs.number4.Statement.{statement}
+use Rattle.address_writer.proofs.number4.Tie as tie
+
+returns : tie.Need-returns
+returns c = let a = c .before .before .before .args in (little-halves (a .s .now) (a .at) 2 2 (c .before .number2 .result) (c .number22 .result) (omega arith) (c .before .number2 .ensures .0) (c .number22 .ensures .0), omega arith)
+
+pub number4-spec : {M : Type 1} → statement M
+number4-spec =
+    tie.close
+    (tie.spec (λ c κs. search needs) (λ c. search needs) (λ c κs. search needs) (λ c. search needs) (λ c. search needs) returns)

@@ -1,0 +1,13 @@
+use native.Mathlib.Omega.{arith}
+use Rattle.address_writer.proofs.Rows.{little-halves}
+use borrow.Author.Needs.{needs}
+use Rattle.address_writer.proofs.number8.Statement.{statement}
+use Rattle.address_writer.proofs.number8.Tie as tie
+
+returns : tie.Need-returns
+returns c = let a = c .before .before .before .args in little-halves (a .s .now) (a .at) 4 4 (c .before .number4 .result) (c .number42 .result) (omega arith) (c .before .number4 .ensures .0) (c .number42 .ensures .0)
+
+pub number8-spec : {M : Type 1} → statement M
+number8-spec =
+    tie.close
+    (tie.spec (λ c κs. search needs) (λ c. search needs) (λ c κs. search needs) (λ c. search needs) (λ c. search needs) returns)

@@ -1,0 +1,12 @@
+use native.Mathlib.Omega.{arith}
+use Rattle.address_writer.proofs.Putting.{put-halves}
+use borrow.Author.Needs.{needs}
+use Rattle.address_writer.proofs.put16.Statement.{statement}
+use Rattle.address_writer.proofs.put16.Tie as tie
+
+returns : tie.Need-returns
+returns c = let a = c .before .before .before .before .before .before .before .before .before .before .args in put-halves (a .s .now) (a .from) 8 8 (omega arith) (c .before .before .before .before .before .before .put8 .ensures) (c .before .before .put82 .ensures)
+
+pub put16-spec : {M : Type 1} → statement M
+put16-spec =
+    tie.close (tie.spec (λ c κs. search needs) (λ c. search needs) (λ c. search needs) (λ c κs. search needs) (λ c. search needs) returns)

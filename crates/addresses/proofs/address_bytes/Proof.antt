@@ -1,0 +1,38 @@
+use lib.ListN.{set, take, drop, replicate, getD}
+use native.Mathlib.Omega.{arith}
+use mathlib.Core.Path.{_≡_, _∙_, refl, ap}
+use mathlib.Core.List.{List, _++_}
+use native.Mathlib.Nat.{le-antisymm}
+use Prim.Native.Nat.{ℕ, _+_, _-_, _≤_}
+use Rattle.addresses.proofs.Handing as H
+use Rattle.addresses.proofs.address_bytes.Statement.{statement}
+use Rattle.addresses.proofs.address_bytes.Tie as tie
+
+abbrev Inv-loop : tie.InvT-loop
+Inv-loop value at width out₀ i₀ out i = (i ≤ width) × (out ≡ take i (drop at value) ++ replicate (16 - i) 0)
+
+abbrev μ-loop : tie.MeasureT-loop
+μ-loop value at width out₀ i₀ out i = width - i
+
+loop-again : tie.Need-loop-again Inv-loop μ-loop
+loop-again c = let l = c .before .before in let s = l .before in
+    (omega arith, ap (λ (o : List ℕ). set o (l .loop .i) (getD (s .args .value .now) (s .args .at + l .loop .i) 0)) (l .loop .inv .1) ∙ H.copy-turn (s .args .value .now) (s .args .at) (s .args .width) (s .pre .0) (s .pre .1) (l .loop .i) (c .before .loop-test .taken))
+
+returns : tie.Need-returns Inv-loop μ-loop
+returns c = let l = c .before in let s = l .before in
+    l .loop .inv .1 ∙ H.copy-ends (s .args .value .now) (s .args .at) (s .args .width) (s .pre .0) (s .pre .1) (l .loop .i) (le-antisymm (l .loop .inv .0) (c .loop-test .left))
+
+pub address-bytes-spec : {M : Type 1} → statement M
+address-bytes-spec =
+    tie.close
+    (tie.spec
+    Inv-loop
+    μ-loop
+    (λ c. (omega arith, refl))
+    (λ c. omega arith)
+    (λ c. omega arith)
+    (λ c. omega arith)
+    (λ c. omega arith)
+    (λ c. omega arith)
+    loop-again
+    returns)

@@ -1,0 +1,50 @@
+use native.Mathlib.Nat.{le-antisymm}
+use mathlib.Core.Path.{_∙_}
+use Rattle.addresses.proofs.Judging as J
+use borrow.Author.Needs.{needs}
+use Rattle.addresses.proofs.is_before.Statement.{statement}
+use Rattle.addresses.proofs.is_before.Tie as tie
+
+returns : tie.Need-returns
+returns c = let s = c .before .before .before .before in J.before-newer (s .args .value .now) (s .args .previous) (s .args .at) (s .args .width) (s .pre .2) (c .if1 .taken)
+
+returns-2 : tie.Need-returns-2
+returns-2 c = let s = c .before .before .before .before .before .before .before in J.before-older (s .args .value .now) (s .args .previous) (s .args .at) (s .args .width) (s .pre .2) (c .if2 .taken)
+
+returns-3 : tie.Need-returns-3
+returns-3 c = let k = c .before .before .before in let s = k .before .before .before .before .before .before .before in
+    J.before-more (s .args .value .now) (s .args .previous) (s .args .at) (s .args .width) (s .pre .2) (le-antisymm (k .if2 .left) (k .before .before .before .if1 .left)) (c .if3 .taken)
+
+returns-4 : tie.Need-returns-4
+returns-4 c = let k = c .before .before .before .before in let s = k .before .before .before .before .before .before .before in
+    J.before-less (s .args .value .now) (s .args .previous) (s .args .at) (s .args .width) (s .pre .2) (le-antisymm (k .if2 .left) (k .before .before .before .if1 .left)) (c .if4 .taken)
+
+returns-5 : tie.Need-returns-5
+returns-5 c = let k = c .before .before .before .before .before in let s = k .before .before .before .before .before .before .before in
+    c .below .ensures ∙ J.before-same (s .args .value .now) (s .args .previous) (s .args .at) (s .args .width) (s .pre .2) (le-antisymm (k .if2 .left) (k .before .before .before .if1 .left)) (le-antisymm (c .before .if4 .left) (c .before .before .if3 .left))
+
+pub is-before-spec : {M : Type 1} → statement M
+is-before-spec =
+    tie.close
+    (tie.spec
+    (λ c. search needs)
+    (λ c. search needs)
+    returns
+    (λ c. search needs)
+    (λ c. search needs)
+    returns-2
+    (λ c. search needs)
+    (λ c. search needs)
+    (λ c. search needs)
+    (λ c. search needs)
+    (λ c. search needs)
+    (λ c. search needs)
+    (λ c. search needs)
+    (λ c. search needs)
+    returns-3
+    returns-4
+    (λ c. search needs)
+    (λ c. search needs)
+    (λ c. search needs)
+    (λ c κs. search needs)
+    returns-5)

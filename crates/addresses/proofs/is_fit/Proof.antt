@@ -1,0 +1,45 @@
+use mathlib.Core.Path.{sym, _∙_}
+use borrow.Author.Tests.{not-true, not-false}
+use Rattle.addresses.proofs.Judging as J
+use borrow.Author.Needs.{needs}
+use Rattle.addresses.proofs.is_fit.Statement.{statement}
+use Rattle.addresses.proofs.is_fit.Tie as tie
+
+returns : tie.Need-returns
+returns c = let s = c .before .before .before in λ st h d k'. J.fit-turned (s .args .value .now) (s .args .at) (s .args .previous) (s .args .width) st (sym (c .before .below .ensures) ∙ c .if1 .taken)
+
+returns-2 : tie.Need-returns-2
+returns-2 c = let k = c .before .before in let s = k .before .before .before .before in
+    λ st h d k'. J.fit-unordered (s .args .value .now) (s .args .at) (s .args .previous) (s .args .width) st h (sym (k .before .before .below .ensures) ∙ k .before .if1 .left) (k .if2 .taken) (c .before .is-before .result) (c .before .is-before .ensures) (not-true (c .before .is-before .result) (c .if3 .taken))
+
+returns-3 : tie.Need-returns-3
+returns-3 c = let e = c .before .before in let k = e .before .before in let s = k .before .before .before .before in
+    λ st h d k'. J.fit-zero (s .args .value .now) (s .args .at) (s .args .previous) (s .args .width) st h (sym (k .before .before .below .ensures) ∙ k .before .if1 .left) (k .if2 .taken) (e .before .is-before .result) (e .before .is-before .ensures) (not-false (e .before .is-before .result) (e .if3 .left)) (c .if4 .taken)
+
+returns-4 : tie.Need-returns-4
+returns-4 c = let e = c .before .before .before in let k = e .before .before in let s = k .before .before .before .before in
+    λ st h d k'. c .clear-from-all .ensures _ d k' ∙ J.fit-other (s .args .value .now) (s .args .at) (s .args .previous) (s .args .width) st h (sym (k .before .before .below .ensures) ∙ k .before .if1 .left) (k .if2 .taken) (e .before .is-before .result) (e .before .is-before .ensures) (not-false (e .before .is-before .result) (e .if3 .left)) (c .before .if4 .left)
+
+returns-5 : tie.Need-returns-5
+returns-5 c = let s = c .before .before .before .before in
+    λ st h d k'. J.fit-first (s .args .value .now) (s .args .at) (s .args .previous) (s .args .width) st h (sym (c .before .before .below .ensures) ∙ c .before .if1 .left) (c .if2 .left)
+
+pub is-fit-spec : {M : Type 1} → statement M
+is-fit-spec =
+    tie.close
+    (tie.spec
+    (λ c. search needs)
+    (λ c. search needs)
+    (λ c. search needs)
+    (λ c κs. search needs)
+    returns
+    (λ c κs. search needs)
+    returns-2
+    (λ c. search needs)
+    (λ c. search needs)
+    (λ c. search needs)
+    (λ c. search needs)
+    returns-3
+    (λ c κs. search needs)
+    returns-4
+    returns-5)

@@ -1,0 +1,11 @@
+use borrow.Author.Needs.{needs}
+use Rattle.capi.specs.Words.{addressesIn}
+use Rattle.capi.proofs.words.addresses_in.Statement.{statement}
+use Rattle.capi.proofs.words.addresses_in.Tie as tie
+
+returns : tie.Need-returns
+unfolding addressesIn
+returns c = search needs
+
+pub addresses-in-spec : {M : Type 1} → statement M
+addresses-in-spec = tie.close (tie.spec returns)

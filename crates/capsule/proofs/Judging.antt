@@ -1,0 +1,24 @@
+-- The judgement of a value, as the code asks. Assumes nothing.
+use mathlib.Core.Path.{_≡_, refl, sym, ap, _∙_}
+use Prim.Native.Nat.{ℕ, _≤_, _<_}
+use native.Mathlib.Omega.{arith}
+use mathlib.Core.Bool.{Bool, true, false}
+use mathlib.Core.List.{List}
+use lib.ListN.{length, take}
+use lib.Seq.{take-all}
+use Rattle.capsule.specs.declared.opening.Report.{Report}
+use Rattle.capsule.specs.declared.opening.Report.the-variants.{AddressDelivered, Malformed}
+use Rattle.addresses.specs.Addresses.{wellFormed}
+use Rattle.capsule.specs.Kinds.{judged}
+
+module _ (t n : ℕ) (a v : List ℕ) (b : Bool) (e : b ≡ wellFormed t v) (s : take n a ≡ v) where
+  pub judged-good : b ≡ true → AddressDelivered t n ≡ judged (AddressDelivered t n) (take n a)
+  unfolding judged
+  judged-good h = rw (s, sym e ∙ h)
+
+  pub judged-bad : b ≡ false → Malformed t n ≡ judged (AddressDelivered t n) (take n a)
+  unfolding judged
+  judged-bad h = rw (s, sym e ∙ h)
+
+pub all-there : (a : List ℕ) (n : ℕ) → length a < n → take n a ≡ a
+all-there a n h = take-all n a (omega arith)

@@ -1,0 +1,15 @@
+use mathlib.Core.Path.{sym, _∙_}
+use borrow.Author.Tests.{not-true, not-false}
+use Rattle.capsule.proofs.Kinding.{none-taken, type-taken, zero-type, type-to-three}
+use borrow.Author.Needs.{needs}
+use Rattle.capsule.proofs.opening.Opening.takes_addresses.Statement.{statement}
+use Rattle.capsule.proofs.opening.Opening.takes_addresses.Tie as tie
+
+pub takes-addresses-spec : {M : Type 1} → statement M
+takes-addresses-spec =
+    tie.close
+    (tie.spec
+    (λ c κs. search needs)
+    (λ c. none-taken _ _ (sym (c .before .opted .ensures) ∙ not-true _ (c .if1 .taken)))
+    (λ c. type-taken _ _ (sym (c .before .before .opted .ensures) ∙ not-false _ (c .before .if1 .left)) _ (zero-type _ (c .if2 .taken)))
+    (λ c. type-taken _ _ (sym (c .before .before .opted .ensures) ∙ not-false _ (c .before .if1 .left)) _ (type-to-three _ (c .if2 .left))))
