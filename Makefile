@@ -1,4 +1,4 @@
-.PHONY: run example test lib install fuzz bench
+.PHONY: run example relay test lib install fuzz bench
 
 FILE ?= samples/s.capture
 PREFIX ?= /usr/local
@@ -15,6 +15,11 @@ run:
 example: lib
 	@$(CC) -std=c99 -O2 -Ibuild/include examples/addresses.c -Lbuild/lib -lmaruzhenu -o build/addresses
 	@build/addresses
+
+# Runs a relay of HTTP/2 tunnels, with the C interface over nghttp2 (Debian's libnghttp2-dev).
+relay: lib
+	@$(CC) -std=c99 -O2 -Ibuild/include examples/h2_relay.c -Lbuild/lib -lmaruzhenu -lnghttp2 -o build/h2_relay
+	@build/h2_relay
 
 # Everything: the proofs, the edits that must be refused, the programs, the C examples, and the comparison of the listing
 # and of all calls with the independent implementation.

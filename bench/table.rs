@@ -4,22 +4,49 @@ use std::time::Instant;
 
 #[repr(C)]
 #[derive(Clone, Copy)]
-pub struct StreamRecord {
-    used: bool,
+pub struct Stream {
     quarter: u64,
-    receive: bool,
-    send: bool,
-    semantics: bool,
+    flags: u64,
 }
 
-const BLANK: StreamRecord = StreamRecord { used: false, quarter: 0, receive: false, send: false, semantics: false };
+const USED: u64 = 1;
+const RECEIVE: u64 = 2;
+const SEND: u64 = 4;
+const SEMANTICS: u64 = 8;
+
+impl Stream {
+    fn has(&self, flag: u64) -> bool {
+        self.flags & flag != 0
+    }
+}
+
+const BLANK: Stream = Stream { quarter: 0, flags: 0 };
+
+#[repr(C)]
+#[derive(Debug, PartialEq)]
+struct Judged {
+    refusal: u64,
+    rule: u64,
+    quarter: u64,
+    place: u64,
+    start: u64,
+    length: u64,
+    error: u64,
+}
+
+#[repr(C)]
+struct Limits {
+    stream_limit: u64,
+    datagram_limit: u64,
+}
 
 extern "C" {
-    fn table_judge(rows: *const StreamRecord, places: usize, streams: u64, limit: u64, frame: *const u8, length: usize) -> u64;
+    fn mrz_judge(streams: *const Stream, streams_len: usize, limits: Limits, frame: *const u8, frame_len: usize) -> Judged;
 }
 
-fn verified(rows: &[StreamRecord], streams: u64, limit: u64, frame: &[u8]) -> u64 {
-    unsafe { table_judge(rows.as_ptr(), rows.len(), streams, limit, frame.as_ptr(), frame.len()) }
+fn verified(rows: &[Stream], streams: u64, limit: u64, frame: &[u8]) -> Judged {
+    let limits = Limits { stream_limit: streams, datagram_limit: limit };
+    unsafe { mrz_judge(rows.as_ptr(), rows.len(), limits, frame.as_ptr(), frame.len()) }
 }
 
 const LARGEST_QUARTER: u64 = (1 << 60) - 1;
@@ -32,15 +59,15 @@ fn read_varint(bytes: &[u8]) -> Option<(u64, usize)> {
     Some((value, size))
 }
 
-fn is_bad_record(r: &StreamRecord) -> bool {
-    if r.used {
-        r.quarter > LARGEST_QUARTER || !(r.receive || r.send)
+fn is_bad_record(r: &Stream) -> bool {
+    if r.has(USED) {
+        r.quarter > LARGEST_QUARTER || !(r.has(RECEIVE) || r.has(SEND))
     } else {
-        r.quarter != 0 || r.receive || r.send || r.semantics
+        r.quarter != 0 || r.flags != 0
     }
 }
 
-fn is_bad(rows: &[StreamRecord]) -> bool {
+fn is_bad(rows: &[Stream]) -> bool {
     if rows.len() > 64 {
         return true;
     }
@@ -49,9 +76,9 @@ fn is_bad(rows: &[StreamRecord]) -> bool {
         if is_bad_record(r) {
             return true;
         }
-        if r.used {
+        if r.has(USED) {
             let bucket = (r.quarter % 256) as usize;
-            if seen[bucket] && rows[..i].iter().any(|o| o.used && o.quarter == r.quarter) {
+            if seen[bucket] && rows[..i].iter().any(|o| o.has(USED) && o.quarter == r.quarter) {
                 return true;
             }
             seen[bucket] = true;
@@ -61,54 +88,62 @@ fn is_bad(rows: &[StreamRecord]) -> bool {
 }
 
 // With the plain double loop, as one would write it first.
-fn is_bad_pairwise(rows: &[StreamRecord]) -> bool {
-    rows.len() > 64 || rows.iter().enumerate().any(|(i, r)| is_bad_record(r) || (r.used && rows[..i].iter().any(|o| o.used && o.quarter == r.quarter)))
+fn is_bad_pairwise(rows: &[Stream]) -> bool {
+    rows.len() > 64 || rows.iter().enumerate().any(|(i, r)| is_bad_record(r) || (r.has(USED) && rows[..i].iter().any(|o| o.has(USED) && o.quarter == r.quarter)))
 }
 
-fn rules(bad: bool, rows: &[StreamRecord], streams: u64, limit: u64, frame: &[u8]) -> u64 {
+fn refused(refusal: u64) -> Judged {
+    Judged { refusal, rule: 0, quarter: 0, place: 0, start: 0, length: 0, error: 0 }
+}
+
+fn ruled(rule: u64, quarter: u64, place: usize, error: u64) -> Judged {
+    Judged { refusal: 0, rule, quarter, place: place as u64, start: 0, length: 0, error }
+}
+
+fn rules(bad: bool, rows: &[Stream], streams: u64, limit: u64, frame: &[u8]) -> Judged {
     if bad {
-        return 1015;
+        return refused(15);
     }
     if limit > 65535 {
-        return 1003;
+        return refused(3);
     }
     if streams > 1 << 60 {
-        return 1006;
+        return refused(6);
     }
-    let Some((quarter, size)) = read_varint(frame) else { return 2001 };
+    let Some((quarter, size)) = read_varint(frame) else { return ruled(1, 0, 0, 3) };
     if quarter > LARGEST_QUARTER {
-        return 2002;
+        return ruled(2, quarter, 0, 4);
     }
     if quarter >= streams {
-        return 2003;
+        return ruled(3, quarter, 0, 5);
     }
-    let Some(place) = rows.iter().position(|r| r.used && r.quarter == quarter) else { return 2004 };
+    let Some(place) = rows.iter().position(|r| r.has(USED) && r.quarter == quarter) else { return ruled(4, quarter, 0, 0) };
     let r = &rows[place];
-    if !r.receive {
-        2005
-    } else if !r.semantics {
-        2006
+    if !r.has(RECEIVE) {
+        ruled(5, quarter, place, 0)
+    } else if !r.has(SEMANTICS) {
+        ruled(6, quarter, place, 2)
     } else if (frame.len() - size) as u64 > limit {
-        2007
+        ruled(7, quarter, place, 0)
     } else {
-        place as u64
+        Judged { start: size as u64, length: (frame.len() - size) as u64, ..ruled(8, quarter, place, 0) }
     }
 }
 
 #[inline(never)]
-fn plain(rows: &[StreamRecord], streams: u64, limit: u64, frame: &[u8]) -> u64 {
+fn plain(rows: &[Stream], streams: u64, limit: u64, frame: &[u8]) -> Judged {
     rules(is_bad(rows), rows, streams, limit, frame)
 }
 
 #[inline(never)]
-fn pairwise(rows: &[StreamRecord], streams: u64, limit: u64, frame: &[u8]) -> u64 {
+fn pairwise(rows: &[Stream], streams: u64, limit: u64, frame: &[u8]) -> Judged {
     rules(is_bad_pairwise(rows), rows, streams, limit, frame)
 }
 
-type Judge = fn(&[StreamRecord], u64, u64, &[u8]) -> u64;
+type Judge = fn(&[Stream], u64, u64, &[u8]) -> Judged;
 
 // Each by turns in short batches, so that all meet the same machine; the best batch of each, in nanoseconds a call.
-fn time(judges: [Judge; 3], rows: &[StreamRecord], frame: &[u8]) -> [f64; 3] {
+fn time(judges: [Judge; 3], rows: &[Stream], frame: &[u8]) -> [f64; 3] {
     let calls = 1_000;
     let mut best = [f64::MAX; 3];
     for _ in 0..1_000 {
@@ -123,10 +158,10 @@ fn time(judges: [Judge; 3], rows: &[StreamRecord], frame: &[u8]) -> [f64; 3] {
     best
 }
 
-fn table(places: usize, used: usize, quarter: impl Fn(u64) -> u64) -> Vec<StreamRecord> {
+fn table(places: usize, used: usize, quarter: impl Fn(u64) -> u64) -> Vec<Stream> {
     let mut rows = vec![BLANK; places];
     for (i, r) in rows.iter_mut().enumerate().take(used) {
-        *r = StreamRecord { used: true, quarter: quarter(i as u64 + 3) & LARGEST_QUARTER, receive: true, send: i % 3 != 0, semantics: true };
+        *r = Stream { quarter: quarter(i as u64 + 3) & LARGEST_QUARTER, flags: USED | RECEIVE | SEMANTICS | if i % 3 != 0 { SEND } else { 0 } };
     }
     rows
 }
@@ -153,16 +188,19 @@ fn compare() {
                 let mut tables = vec![good.clone()];
                 for i in 0..places.min(8) {
                     let mut t = good.clone();
-                    t[i].receive = !t[i].receive;
+                    t[i].flags ^= RECEIVE;
                     tables.push(t.clone());
-                    t[i].send = false;
+                    t[i].flags &= !SEND;
                     tables.push(t.clone());
                     t[i] = good[places - 1];
                     tables.push(t.clone());
                     t[i] = good[i];
-                    t[i].semantics = !t[i].semantics;
+                    t[i].flags ^= SEMANTICS;
                     tables.push(t.clone());
                     t[i].quarter += 1 << 60;
+                    tables.push(t);
+                    let mut t = good.clone();
+                    t[i].flags |= 1 << 40;
                     tables.push(t);
                 }
                 for t in &tables {

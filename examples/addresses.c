@@ -36,17 +36,20 @@ static void add(struct stream *stream, mrz_written written) {
 /* One side of the tunnel. */
 struct side {
     const char *name;
-    uint64_t words[MRZ_READER_WORDS];
+    mrz_reader reader;
     uint8_t addresses[MRZ_LONGEST_ADDRESS_VALUE];
     uint64_t request_id; /* of the last entry that came */
 };
 
 static void open_side(struct side *side, const char *name) {
+    mrz_opening opening = {0, 0, 0, 0};
     uint64_t refusal;
     memset(side, 0, sizeof *side);
     side->name = name;
     /* no datagrams here: limit 0, so that no gathering buffer is needed */
-    refusal = mrz_reader_open(side->words, MRZ_ROLE_ENDPOINT, 0, 0, 1);
+    opening.role = MRZ_ROLE_ENDPOINT;
+    opening.addresses = 1;
+    refusal = mrz_reader_open(&side->reader, opening);
     if (refusal != MRZ_NOT_REFUSED) {
         fail("opening a reader was refused", refusal);
     }
@@ -123,7 +126,7 @@ static mrz_fed receive(struct side *side, const struct stream *stream) {
         if (piece > stream->length - at) {
             piece = stream->length - at;
         }
-        fed = mrz_reader_feed(side->words, stream->bytes + at, piece, NULL, 0, side->addresses,
+        fed = mrz_reader_feed(&side->reader, stream->bytes + at, piece, NULL, 0, side->addresses,
                               sizeof side->addresses, NULL, 0);
         if (fed.refusal != MRZ_NOT_REFUSED) {
             fail("feeding was refused", fed.refusal);
@@ -151,7 +154,7 @@ static void request(struct stream *stream) {
     wanted.ip_version = 4;
     wanted.prefix_length = 32;
     stream->length = 0;
-    add(stream, mrz_write_address_request(&wanted, sizeof wanted, stream->bytes, sizeof stream->bytes, 0));
+    add(stream, mrz_write_address_request(MRZ_ENTRIES(&wanted, 1), stream->bytes, sizeof stream->bytes, 0));
 }
 
 /* The proxy assigns 203.0.113.5 to the request, and tells an IPv4 route for all protocols and an IPv6 route for UDP. */
@@ -168,8 +171,8 @@ static void assign(struct stream *stream, uint64_t request_id) {
     assigned.prefix_length = 32;
     memcpy(assigned.address, address, sizeof address);
     stream->length = 0;
-    add(stream, mrz_write_address_assign(&assigned, sizeof assigned, stream->bytes, sizeof stream->bytes, 0));
-    add(stream, mrz_write_route_advertisement(routes, sizeof routes, stream->bytes, sizeof stream->bytes,
+    add(stream, mrz_write_address_assign(MRZ_ENTRIES(&assigned, 1), stream->bytes, sizeof stream->bytes, 0));
+    add(stream, mrz_write_route_advertisement(MRZ_ENTRIES(routes, 2), stream->bytes, sizeof stream->bytes,
                                               stream->length));
 }
 
@@ -183,8 +186,9 @@ static void assign_malformed(struct stream *stream) {
     wrong.prefix_length = 8;
     wrong.address[0] = 10;
     wrong.address[3] = 1;
-    written = mrz_write_address_assign(&wrong, sizeof wrong, stream->bytes, sizeof stream->bytes, 0);
-    printf("proxy: writing 10.0.0.1/8 is refused, %" PRIu64 "\n", written.refusal);
+    written = mrz_write_address_assign(MRZ_ENTRIES(&wrong, 1), stream->bytes, sizeof stream->bytes, 0);
+    printf("proxy: writing 10.0.0.1/8 is refused, %" PRIu64 " (%s)\n", written.refusal,
+           mrz_refusal_name(written.refusal));
     memcpy(stream->bytes, capsule, sizeof capsule);
     stream->length = sizeof capsule;
 }
@@ -207,9 +211,9 @@ int main(void) {
     if (fed.report != MRZ_REPORT_MALFORMED || fed.error != MRZ_ERROR_MALFORMED) {
         fail("the malformed capsule was not found", fed.report);
     }
-    fed = mrz_reader_feed(client.words, stream.bytes, 1, NULL, 0, client.addresses, sizeof client.addresses, NULL,
+    fed = mrz_reader_feed(&client.reader, stream.bytes, 1, NULL, 0, client.addresses, sizeof client.addresses, NULL,
                           0);
-    printf("client: the reader is finished, the next call is refused, %" PRIu64 "\n", fed.refusal);
-    printf("proxy: the stream ends %s\n", mrz_reader_close(proxy.words).end == MRZ_END_CLEAN ? "clean" : "truncated");
+    printf("client: the next call is refused, %" PRIu64 " (%s)\n", fed.refusal, mrz_refusal_name(fed.refusal));
+    printf("proxy: the stream ends %s\n", mrz_reader_close(&proxy.reader).end == MRZ_END_CLEAN ? "clean" : "truncated");
     return 0;
 }

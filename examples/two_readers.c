@@ -2,8 +2,8 @@
  * Two readers in one host, fed in turn with pieces cut at random.
  *
  * One stream is a good one: datagrams with known payloads, and other capsules between them. The other one lies about a
- * length: it names one near 2^62, or more than the limit, and sends something else. Whatever the second stream does, the
- * datagrams of the first arrive unaltered, and nothing outside the lent buffers changes.
+ * length: it names one near 2^62, or more than the limit, and sends something else. Whatever the second stream does,
+ * the datagrams of the first arrive unaltered, and nothing outside the lent buffers changes.
  *
  *     cc -std=c99 two_readers.c $(pkg-config --cflags --libs maruzhenu) -o two_readers
  */
@@ -80,12 +80,11 @@ static size_t payload_length(unsigned round, size_t datagram) {
 
 /* Datagrams through the capsule writer, and capsules of unknown type between them. */
 static void make_good_stream(struct stream *stream, unsigned round) {
-    uint64_t quarters[4] = {0, 0, 0, 0};
-    uint8_t marks[4] = {0, 0, 0, 0};
+    mrz_stream streams[4] = {{0, 0}, {0, 0}, {0, 0}, {0, 0}};
     const uint64_t id = 4 * (uint64_t)(round + 1);
     uint8_t payload[LIMIT];
     size_t datagram, i;
-    mrz_opened opened = mrz_stream_open(quarters, 4, marks, 4, id, 1);
+    mrz_opened opened = mrz_stream_open(streams, 4, id, 1);
     expect("opening the stream", 0, opened.refusal);
     stream->length = 0;
     for (datagram = 0; datagram < DATAGRAMS; datagram++) {
@@ -94,8 +93,8 @@ static void make_good_stream(struct stream *stream, unsigned round) {
         for (i = 0; i < length; i++) {
             payload[i] = payload_byte(round, datagram, i);
         }
-        written = mrz_write_capsule(quarters, 4, marks, 4, id, payload, length, stream->bytes,
-                                    sizeof stream->bytes, stream->length);
+        written = mrz_write_capsule(streams, 4, id, payload, length, stream->bytes, sizeof stream->bytes,
+                                    stream->length);
         expect("writing a capsule", 0, written.refusal);
         stream->length += (size_t)written.written;
         if (datagram % 3 == 0) {
@@ -121,7 +120,7 @@ static void make_bad_stream(struct stream *stream, uint64_t type, uint64_t false
 }
 
 struct host {
-    uint64_t words[MRZ_READER_WORDS];
+    mrz_reader reader;
     uint8_t guard_before[GUARD];
     uint8_t gathering[LIMIT];
     uint8_t guard_behind[GUARD];
@@ -132,11 +131,14 @@ struct host {
 };
 
 static void open_host(struct host *host, uint64_t role) {
+    mrz_opening opening = {0, 0, 0, 0};
+    opening.role = role;
+    opening.datagram_limit = LIMIT;
     memset(host, 0, sizeof *host);
     memset(host->guard_before, 0xa5, GUARD);
     memset(host->gathering, 0x5a, LIMIT);
     memset(host->guard_behind, 0xa5, GUARD);
-    expect("opening a reader", 0, mrz_reader_open(host->words, role, LIMIT, 0, 0));
+    expect("opening a reader", 0, mrz_reader_open(&host->reader, opening));
 }
 
 static void check_guards(const struct host *host) {
@@ -160,7 +162,7 @@ static mrz_fed feed(struct host *host, const struct stream *stream) {
     if (length > left) {
         length = left;
     }
-    fed = mrz_reader_feed(host->words, stream->bytes + host->fed, length, host->gathering, LIMIT,
+    fed = mrz_reader_feed(&host->reader, stream->bytes + host->fed, length, host->gathering, LIMIT,
                           NULL, 0, output, length + MRZ_OUTPUT_HEADROOM);
     expect("feeding", 0, fed.refusal);
     if (fed.consumed > length || (length > 0 && fed.consumed == 0)) {
@@ -214,6 +216,7 @@ static struct host hosts[2];
 static void one_round(unsigned round, uint64_t role, uint64_t type, uint64_t false_length) {
     struct host *good = &hosts[0], *bad = &hosts[1];
     mrz_closed closed;
+    mrz_look look;
     mrz_fed fed;
 
     make_good_stream(&good_stream, round);
@@ -234,14 +237,21 @@ static void one_round(unsigned round, uint64_t role, uint64_t type, uint64_t fal
     expect("forwarded bytes of the stream that lies",
            role == MRZ_ROLE_INTERMEDIARY && type != 0 ? bad_stream.length : 0, bad->forwarded);
 
-    closed = mrz_reader_close(good->words);
+    /* A host may look at a reader that reports nothing. */
+    look = mrz_reader_look(&bad->reader);
+    expect("looking at the reader of the stream that lies", 0, look.refusal);
+    expect("where it stands", MRZ_FIELD_VALUE, look.field);
+    expect("the length that the stream names", false_length, look.length);
+    expect("the buffer in use", MRZ_BUFFER_NEITHER, look.buffer);
+
+    closed = mrz_reader_close(&good->reader);
     expect("closing the good reader", 0, closed.refusal);
     expect("the end of the good stream", MRZ_END_CLEAN, closed.end);
-    closed = mrz_reader_close(bad->words);
+    closed = mrz_reader_close(&bad->reader);
     expect("closing the other reader", 0, closed.refusal);
     expect("the end of the stream that lies", MRZ_END_TRUNCATED, closed.end);
     expect("its error", MRZ_ERROR_TRUNCATED, closed.error);
-    fed = mrz_reader_feed(bad->words, bad_stream.bytes, 1, bad->gathering, LIMIT, NULL, 0, output,
+    fed = mrz_reader_feed(&bad->reader, bad_stream.bytes, 1, bad->gathering, LIMIT, NULL, 0, output,
                           sizeof output);
     expect("feeding after the close", MRZ_REFUSAL_FINISHED, fed.refusal);
 }
@@ -257,11 +267,12 @@ static void false_lengths(const char *what, uint64_t role, uint64_t type, uint64
 
 int main(void) {
     static const uint64_t lengths[] = {LARGEST, LARGEST - 1, LARGEST / 2 + 1, UINT64_C(1) << 32, 65536};
-    uint64_t words[MRZ_READER_WORDS];
+    static const mrz_opening no_datagrams = {MRZ_ROLE_ENDPOINT, 0, 0, 0};
+    mrz_reader reader;
     size_t i;
     /* A null pointer with length 0 is an empty buffer. */
-    expect("opening a reader with limit 0", 0, mrz_reader_open(words, MRZ_ROLE_ENDPOINT, 0, 0, 0));
-    expect("feeding nothing", 0, mrz_reader_feed(words, NULL, 0, NULL, 0, NULL, 0, NULL, 0).refusal);
+    expect("opening a reader with limit 0", 0, mrz_reader_open(&reader, no_datagrams));
+    expect("feeding nothing", 0, mrz_reader_feed(&reader, NULL, 0, NULL, 0, NULL, 0, NULL, 0).refusal);
     expect("reading a number from nothing", 0, mrz_read_varint(NULL, 0).size);
     expect("listing nothing", MRZ_END_CLEAN, mrz_list(NULL, 0).end);
     for (i = 0; i < sizeof lengths / sizeof lengths[0]; i++) {

@@ -4,6 +4,7 @@ use std::cell::RefCell;
 use std::hint::black_box;
 
 use independent::varint;
+use maruzhenu::{Buffers, Opening};
 
 use crate::measure::{race, Work};
 
@@ -58,28 +59,34 @@ macro_rules! pass {
     ($package:ident, $open:path, $feed:path, $stream:expr, $piece:expr, $role:expr, $buffers:expr) => {
         Box::new(|| {
             let (gathering, second, output) = &mut *$buffers.borrow_mut();
-            // The opening is not known when this is compiled.
-            let role = match black_box($role) {
-                Role::Intermediary => $package::Role::Intermediary,
-                _ => $package::Role::Endpoint,
+            let mut buffers = Buffers {
+                gathering,
+                addresses: second,
+                output,
             };
-            let limit = black_box(LIMIT as u64);
-            let addresses = matches!(black_box($role), Role::OptedIn | Role::Addresses);
-            let draft = black_box(false);
-            let mut reader = $open(role, limit, draft, addresses).expect("the limit is allowed");
+            // The opening is not known when this is compiled.
+            let opening = Opening {
+                role: match black_box($role) {
+                    Role::Intermediary => maruzhenu::Role::Intermediary,
+                    _ => maruzhenu::Role::Endpoint,
+                },
+                datagram_limit: black_box(LIMIT),
+                draft: black_box(false),
+                addresses: matches!(black_box($role), Role::OptedIn | Role::Addresses),
+            };
+            let mut reader = $open(opening).expect("the limit is allowed");
             let mut sum = 0;
             for mut piece in $stream.chunks($piece) {
                 while !piece.is_empty() {
-                    let fed = $feed(&mut reader, piece, gathering, second, output)
-                        .expect("the buffers suffice");
+                    let fed = $feed(&mut reader, piece, &mut buffers).expect("the buffers suffice");
                     piece = &piece[fed.consumed..];
                     sum += fed.written as u64;
                     match fed.report {
-                        Some($package::Report::Delivered { length }) => sum += length + 1,
+                        Some($package::Report::Delivered { length }) => sum += length as u64 + 1,
                         Some(
                             $package::Report::Passed { length, .. }
                             | $package::Report::AddressDelivered { length, .. },
-                        ) => sum += length + 1,
+                        ) => sum += length as u64 + 1,
                         _ => {}
                     }
                 }
@@ -87,6 +94,24 @@ macro_rules! pass {
             sum
         })
     };
+}
+
+fn open_independent(opening: Opening) -> Result<independent::Reader, independent::Refusal> {
+    let role = match opening.role {
+        maruzhenu::Role::Endpoint => independent::Role::Endpoint,
+        maruzhenu::Role::Intermediary => independent::Role::Intermediary,
+    };
+    let limit = opening.datagram_limit as u64;
+    independent::Reader::new(role, limit, opening.draft, opening.addresses)
+}
+
+#[inline(always)]
+fn feed_independent(
+    reader: &mut independent::Reader,
+    piece: &[u8],
+    buffers: &mut Buffers,
+) -> Result<independent::Fed, independent::Refusal> {
+    reader.feed(piece, buffers.gathering, buffers.addresses, buffers.output)
 }
 
 /// The independent reader behind a call, as a library's is.
@@ -99,6 +124,16 @@ fn feed_by_call(
     output: &mut [u8],
 ) -> Result<independent::Fed, independent::Refusal> {
     reader.feed(piece, gathering, addresses, output)
+}
+
+#[inline(always)]
+fn feed_called(
+    reader: &mut independent::Reader,
+    piece: &[u8],
+    buffers: &mut Buffers,
+) -> Result<independent::Fed, independent::Refusal> {
+    let (addresses, output) = (&mut *buffers.addresses, &mut *buffers.output);
+    feed_by_call(reader, piece, buffers.gathering, addresses, output)
 }
 
 /// What a reader has to move, call by call: from where in the stream, how many bytes, and to where in the buffer.
@@ -142,7 +177,6 @@ pub struct Times {
 /// Reads a stream of values of this length in pieces. All sides write to the same buffers, which are not cleared between
 /// passes.
 pub fn measure(role: Role, length: usize, piece: usize) -> Times {
-    use independent::Reader as Independent;
     use maruzhenu::Reader as Ours;
     let (stream, count) = stream(role, length);
     let moves = moves(role, &stream, count, length, piece);
@@ -158,8 +192,8 @@ pub fn measure(role: Role, length: usize, piece: usize) -> Times {
     );
     let inlined: Work = pass!(
         independent,
-        Independent::new,
-        Independent::feed,
+        open_independent,
+        feed_independent,
         stream,
         piece,
         role,
@@ -167,8 +201,8 @@ pub fn measure(role: Role, length: usize, piece: usize) -> Times {
     );
     let called: Work = pass!(
         independent,
-        Independent::new,
-        feed_by_call,
+        open_independent,
+        feed_called,
         stream,
         piece,
         role,
@@ -186,9 +220,8 @@ pub fn measure(role: Role, length: usize, piece: usize) -> Times {
         sum as u64
     });
     let mut sides = vec![ours, inlined, called, copy];
-    // It knows no address capsules.
     #[cfg(base)]
-    if role != Role::Addresses {
+    {
         use crate::base::Reader as Base;
         let base: Work = pass!(
             maruzhenu,

@@ -101,7 +101,7 @@ fn feeding() {
                     row("bare copy of the same bytes", times.copy, Some(1.15)).print();
                 }
                 if let Some(base) = times.base {
-                    row("the archive before", base, None).print();
+                    row(calls::BASE, base, None).print();
                 }
             }
         }

@@ -42,6 +42,16 @@ fn plain(bytes: &[u8]) -> u64 {
     sum
 }
 
+#[cfg(base)]
+fn base(bytes: &[u8]) -> u64 {
+    let (mut sum, mut place) = (0u64, 0);
+    while let Some((value, size)) = crate::base::read_varint(&bytes[place..]) {
+        sum = sum.wrapping_add(value);
+        place += size;
+    }
+    sum
+}
+
 #[cfg(nghttp3)]
 fn nghttp3(bytes: &[u8]) -> u64 {
     extern "C" {
@@ -86,6 +96,8 @@ type Peer = (&'static str, fn(&[u8]) -> u64, Option<f64>);
 pub fn rows() -> Vec<Row> {
     let peers: &[Peer] = &[
         ("independent, plain Rust, inlined", plain, None),
+        #[cfg(base)]
+        (crate::calls::BASE, base, None),
         #[cfg(nghttp3)]
         ("nghttp3", nghttp3, Some(0.8)),
         #[cfg(quinn)]

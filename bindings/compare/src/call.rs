@@ -2,35 +2,28 @@
 
 use std::fmt;
 
-use maruzhenu::raw::Words;
+use maruzhenu::raw::{FrameTerms, Limits, Opening, Stream};
 
-use crate::lent::{hex, Lent};
+use crate::lent::{hex, Lent, LentReader};
 
 /// The fields of an answer in the order of the C interface; those that a call does not have are 0. An IP address takes
 /// two fields, its bytes as big-endian numbers.
-pub type Answer = [u64; 8];
+pub type Answer = [u64; 9];
 
 /// An answer with these fields.
 pub fn fields<const COUNT: usize>(fields: [u64; COUNT]) -> Answer {
-    let mut answer = [0; 8];
+    let mut answer = [0; 9];
     answer[..COUNT].copy_from_slice(&fields);
     answer
 }
 
-/// A table's two rows.
-#[derive(Clone, Debug, PartialEq, Eq)]
-pub struct Rows {
-    pub quarters: Lent<u64>,
-    pub marks: Lent<u8>,
-}
-
-impl Rows {
-    pub fn new(quarters: &[u64], marks: &[u8]) -> Rows {
-        Rows {
-            quarters: Lent::new(quarters, 0x5a5a_5a5a_5a5a_5a5a),
-            marks: Lent::new(marks, 0x5a),
-        }
-    }
+/// A stream table, to be lent.
+pub fn lent_table(records: &[Stream]) -> Lent<Stream> {
+    let around = Stream {
+        quarter: 0x5a5a_5a5a_5a5a_5a5a,
+        flags: 0xa5a5_a5a5_a5a5_a5a5,
+    };
+    Lent::new(records, around)
 }
 
 /// Bytes that are lent to be read.
@@ -55,54 +48,80 @@ pub enum Call {
         place: u64,
     },
     ReaderOpen {
-        words: Words,
-        role: u64,
-        limit: u64,
-        draft: u64,
-        addresses: u64,
+        reader: LentReader,
+        opening: Opening,
     },
     ReaderFeed {
-        words: Words,
+        reader: LentReader,
         piece: Bytes,
         gathering: Lent<u8>,
         addresses: Lent<u8>,
         output: Lent<u8>,
     },
     ReaderClose {
-        words: Words,
+        reader: LentReader,
+    },
+    ReaderLook {
+        reader: LentReader,
     },
     List {
         bytes: Bytes,
     },
     StreamOpen {
-        table: Rows,
+        table: Lent<Stream>,
         id: u64,
         semantics: u64,
     },
     StreamClose {
-        table: Rows,
+        table: Lent<Stream>,
         id: u64,
         side: u64,
     },
+    StreamFind {
+        table: Lent<Stream>,
+        id: u64,
+    },
+    QuarterOf {
+        id: u64,
+    },
+    StreamIdOf {
+        quarter: u64,
+    },
     Judge {
-        table: Rows,
-        streams: u64,
-        limit: u64,
+        table: Lent<Stream>,
+        limits: Limits,
         frame: Bytes,
     },
     WriteCapsule {
-        table: Rows,
+        table: Lent<Stream>,
         id: u64,
         payload: Bytes,
         out: Lent<u8>,
         place: u64,
     },
     WriteFrame {
-        table: Rows,
+        table: Lent<Stream>,
         id: u64,
-        settings: [u64; 2],
-        path: u64,
+        terms: FrameTerms,
         payload: Bytes,
+        out: Lent<u8>,
+        place: u64,
+    },
+    WriteFrameHeader {
+        table: Lent<Stream>,
+        id: u64,
+        terms: FrameTerms,
+        length: u64,
+        out: Lent<u8>,
+        place: u64,
+    },
+    WriteDatagram {
+        payload: Bytes,
+        out: Lent<u8>,
+        place: u64,
+    },
+    WriteDatagramHeader {
+        length: u64,
         out: Lent<u8>,
         place: u64,
     },
@@ -158,7 +177,7 @@ pub enum Call {
 }
 
 /// The functions, the names of their answers' fields, and the refusals that each can give.
-pub const FUNCTIONS: [(&str, &[&str], &[u64]); 23] = [
+pub const FUNCTIONS: [(&str, &[&str], &[u64]); 30] = [
     ("mrz_read_varint", &["value", "size"], &[]),
     ("mrz_write_varint", &["refusal", "written"], &[6, 5]),
     ("mrz_reader_open", &["refusal"], &[3]),
@@ -171,15 +190,39 @@ pub const FUNCTIONS: [(&str, &[&str], &[u64]); 23] = [
     ),
     ("mrz_reader_close", &["refusal", "end", "error"], &[1, 2]),
     (
+        "mrz_reader_look",
+        &[
+            "refusal",
+            "finished",
+            "datagram limit",
+            "field",
+            "type",
+            "length",
+            "to come",
+            "gathered",
+            "buffer",
+        ],
+        &[1],
+    ),
+    (
         "mrz_list",
         &["refusal", "capsules", "headers", "end"],
         &[16],
     ),
     ("mrz_stream_open", &["refusal", "place"], &[15, 7, 9, 8]),
-    ("mrz_stream_close", &["refusal", "freed"], &[15, 7, 10]),
+    (
+        "mrz_stream_close",
+        &["refusal", "place", "freed"],
+        &[15, 7, 10],
+    ),
+    ("mrz_stream_find", &["refusal", "place"], &[15, 7, 10]),
+    ("mrz_quarter_of", &["refusal", "quarter"], &[7]),
+    ("mrz_stream_id_of", &["too large", "stream ID"], &[]),
     (
         "mrz_judge",
-        &["refusal", "rule", "place", "start", "length", "error"],
+        &[
+            "refusal", "rule", "quarter", "place", "start", "length", "error",
+        ],
         &[15, 3, 6],
     ),
     (
@@ -191,6 +234,17 @@ pub const FUNCTIONS: [(&str, &[&str], &[u64]); 23] = [
         "mrz_write_frame",
         &["refusal", "written"],
         &[15, 7, 10, 11, 12, 13, 6, 14, 5],
+    ),
+    (
+        "mrz_write_frame_header",
+        &["refusal", "written"],
+        &[15, 7, 10, 11, 12, 13, 6, 14, 5],
+    ),
+    ("mrz_write_datagram", &["refusal", "written"], &[6, 5]),
+    (
+        "mrz_write_datagram_header",
+        &["refusal", "written"],
+        &[6, 5],
     ),
     ("mrz_address_value_good", &["good"], &[]),
     (
@@ -246,35 +300,48 @@ impl Call {
             Call::ReaderOpen { .. } => 2,
             Call::ReaderFeed { .. } => 3,
             Call::ReaderClose { .. } => 4,
-            Call::List { .. } => 5,
-            Call::StreamOpen { .. } => 6,
-            Call::StreamClose { .. } => 7,
-            Call::Judge { .. } => 8,
-            Call::WriteCapsule { .. } => 9,
-            Call::WriteFrame { .. } => 10,
-            Call::AddressValueGood { .. } => 11,
-            Call::AddressNext { .. } => 12,
-            Call::RouteNext { .. } => 13,
-            Call::WriteAddressAssign { .. } => 14,
-            Call::WriteAddressRequest { .. } => 15,
-            Call::WriteRouteAdvertisement { .. } => 16,
-            Call::SettingError { .. } => 17,
-            Call::RequestMalformed { .. } => 18,
-            Call::ResponseMalformed { .. } => 19,
-            Call::FieldCounts { .. } => 20,
-            Call::FieldInUse { .. } => 21,
-            Call::Translate { .. } => 22,
+            Call::ReaderLook { .. } => 5,
+            Call::List { .. } => 6,
+            Call::StreamOpen { .. } => 7,
+            Call::StreamClose { .. } => 8,
+            Call::StreamFind { .. } => 9,
+            Call::QuarterOf { .. } => 10,
+            Call::StreamIdOf { .. } => 11,
+            Call::Judge { .. } => 12,
+            Call::WriteCapsule { .. } => 13,
+            Call::WriteFrame { .. } => 14,
+            Call::WriteFrameHeader { .. } => 15,
+            Call::WriteDatagram { .. } => 16,
+            Call::WriteDatagramHeader { .. } => 17,
+            Call::AddressValueGood { .. } => 18,
+            Call::AddressNext { .. } => 19,
+            Call::RouteNext { .. } => 20,
+            Call::WriteAddressAssign { .. } => 21,
+            Call::WriteAddressRequest { .. } => 22,
+            Call::WriteRouteAdvertisement { .. } => 23,
+            Call::SettingError { .. } => 24,
+            Call::RequestMalformed { .. } => 25,
+            Call::ResponseMalformed { .. } => 26,
+            Call::FieldCounts { .. } => 27,
+            Call::FieldInUse { .. } => 28,
+            Call::Translate { .. } => 29,
         }
     }
 
-    /// The words of a reader, where the call has them.
-    pub fn words(&self) -> Option<&Words> {
+    /// The reader, where the call has one.
+    pub fn reader(&self) -> Option<&LentReader> {
         match self {
-            Call::ReaderOpen { words, .. }
-            | Call::ReaderFeed { words, .. }
-            | Call::ReaderClose { words } => Some(words),
+            Call::ReaderOpen { reader, .. }
+            | Call::ReaderFeed { reader, .. }
+            | Call::ReaderClose { reader }
+            | Call::ReaderLook { reader } => Some(reader),
             _ => None,
         }
+    }
+
+    /// The words of its reader.
+    pub fn words(&self) -> Option<[u64; 8]> {
+        self.reader().map(LentReader::words)
     }
 
     /// The buffers of bytes that are lent to be written, with their names.
@@ -293,22 +360,26 @@ impl Call {
             Call::WriteVarint { out, .. }
             | Call::WriteCapsule { out, .. }
             | Call::WriteFrame { out, .. }
+            | Call::WriteFrameHeader { out, .. }
+            | Call::WriteDatagram { out, .. }
+            | Call::WriteDatagramHeader { out, .. }
             | Call::WriteAddressAssign { out, .. }
             | Call::WriteAddressRequest { out, .. }
             | Call::WriteRouteAdvertisement { out, .. } => vec![("out", out)],
-            Call::StreamOpen { table, .. } | Call::StreamClose { table, .. } => {
-                vec![("marks", &table.marks)]
-            }
             _ => Vec::new(),
         }
     }
 
-    /// The row of quarters that is lent to be written.
-    pub fn quarters(&self) -> Option<&Lent<u64>> {
+    /// The stream table, where the call has one. Some calls may write to it.
+    pub fn table(&self) -> Option<&Lent<Stream>> {
         match self {
-            Call::StreamOpen { table, .. } | Call::StreamClose { table, .. } => {
-                Some(&table.quarters)
-            }
+            Call::StreamOpen { table, .. }
+            | Call::StreamClose { table, .. }
+            | Call::StreamFind { table, .. }
+            | Call::Judge { table, .. }
+            | Call::WriteCapsule { table, .. }
+            | Call::WriteFrame { table, .. }
+            | Call::WriteFrameHeader { table, .. } => Some(table),
             _ => None,
         }
     }

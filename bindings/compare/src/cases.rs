@@ -30,6 +30,8 @@ pub enum Kind {
     Frames,
     /// Capsules and frames written.
     Writers,
+    /// Stream IDs and quarters converted.
+    Identifiers,
     /// Varints read and written.
     Varints,
     /// Buffers listed.
@@ -45,7 +47,7 @@ pub enum Kind {
 }
 
 /// One round.
-const ROUND: [Kind; 20] = [
+const ROUND: [Kind; 21] = [
     Kind::Cuts,
     Kind::Calls,
     Kind::Words,
@@ -57,6 +59,7 @@ const ROUND: [Kind; 20] = [
     Kind::AddressValues,
     Kind::AddressCalls,
     Kind::Listings,
+    Kind::Identifiers,
     Kind::Words,
     Kind::Tables,
     Kind::Calls,
@@ -87,6 +90,7 @@ pub fn run(seed: u64, number: u64, comparison: &mut Comparison) -> Outcome {
         Kind::Tables => tables::open_and_close(random, comparison),
         Kind::Frames => tables::frames(random, comparison),
         Kind::Writers => tables::writers(random, comparison),
+        Kind::Identifiers => tables::identifiers(random, comparison),
         Kind::Varints => small::varints(random, comparison),
         Kind::Listings => small::listings(random, comparison),
         Kind::Http => small::http(random, comparison),

@@ -3,18 +3,46 @@
 use independent::addresses::{self, Address, AddressType, Found, Ip, Range};
 use independent::http::{self, Action, Fields};
 use independent::judge::{judge, Verdict};
+use independent::look::{self, Seen, Stored, Where};
 use independent::oneshot;
-use independent::table::{self, Side};
+use independent::table::{self, Record, Side};
 use independent::writers::{self, Sending};
 use independent::{varint, Closing, Reader, Refusal, Report, Role};
 
+use maruzhenu::raw::{FrameTerms, Stream};
+
 use crate::call::{fields, Answer, Call};
 
+/// The reader as the calls before have left it, and the bytes that it has seen where its opening was a call too.
+#[derive(Default)]
+pub struct Kept {
+    reader: Option<Reader>,
+    seen: Option<Seen>,
+}
+
+impl Kept {
+    /// The reader that has these words, if any has. Words that are not those of the reader that is kept have been damaged;
+    /// what they are the words of is then made from them.
+    fn reader_of(&mut self, words: [u64; 8]) -> Option<&mut Reader> {
+        if self.reader.as_ref().map(Reader::words) != Some(words) {
+            self.reader = Reader::from_words(words);
+            self.seen = None;
+        }
+        self.reader.as_mut()
+    }
+
+    /// What the reader with these words has seen.
+    fn seen_of(&mut self, words: [u64; 8]) -> Option<&Seen> {
+        self.reader_of(words)?;
+        if self.seen.is_none() {
+            self.seen = Seen::from_words(words);
+        }
+        self.seen.as_ref()
+    }
+}
+
 /// Makes the call. What is lent to be written is changed in place.
-///
-/// `kept` is the reader as the calls before have left it. Words that are not its words have been damaged; what they are
-/// the words of is then made from them.
-pub fn answer(call: &mut Call, kept: &mut Option<Reader>) -> Answer {
+pub fn answer(call: &mut Call, kept: &mut Kept) -> Answer {
     match call {
         Call::ReadVarint { bytes } => match varint::read(&bytes.0) {
             Some((value, size)) => fields([value, size as u64]),
@@ -23,54 +51,62 @@ pub fn answer(call: &mut Call, kept: &mut Option<Reader>) -> Answer {
         Call::WriteVarint { number, out, place } => {
             count(varint::write(*number, out.get_mut(), *place))
         }
-        Call::ReaderOpen {
-            words,
-            role,
-            limit,
-            draft,
-            addresses,
-        } => {
-            let role = match *role {
-                0 => Role::Endpoint,
-                _ => Role::Intermediary,
+        Call::ReaderOpen { reader, opening } => {
+            let opening = look::Opening {
+                role: match opening.role {
+                    0 => Role::Endpoint,
+                    _ => Role::Intermediary,
+                },
+                limit: opening.datagram_limit,
+                draft: opening.draft != 0,
+                addresses: opening.addresses != 0,
             };
-            match Reader::new(role, *limit, *draft != 0, *addresses != 0) {
-                Ok(reader) => {
-                    *words = reader.words();
-                    *kept = Some(reader);
+            let (draft, addresses) = (opening.draft, opening.addresses);
+            match Reader::new(opening.role, opening.limit, draft, addresses) {
+                Ok(opened) => {
+                    reader.get_mut().words = opened.words();
+                    kept.reader = Some(opened);
+                    kept.seen = Some(Seen::new(opening));
                     fields([])
                 }
                 Err(refusal) => refused(refusal),
             }
         }
         Call::ReaderFeed {
-            words,
+            reader: lent,
             piece,
             gathering,
             addresses,
             output,
         } => {
-            let Some(reader) = reader_of(words, kept) else {
+            let Some(reader) = kept.reader_of(lent.words()) else {
                 return refused(Refusal::NotMakeable);
             };
             let (gathering, addresses) = (gathering.get_mut(), addresses.get_mut());
             match reader.feed(&piece.0, gathering, addresses, output.get_mut()) {
                 Ok(fed) => {
-                    *words = reader.words();
+                    lent.get_mut().words = reader.words();
                     let [report, capsule_type, length, error] = report_numbers(fed.report);
+                    if let Some(seen) = &mut kept.seen {
+                        seen.consumed(&piece.0[..fed.consumed]);
+                        seen.finished = error != 0;
+                    }
                     let (consumed, written) = (fed.consumed as u64, fed.written as u64);
                     fields([0, consumed, written, report, capsule_type, length, error])
                 }
                 Err(refusal) => refused(refusal),
             }
         }
-        Call::ReaderClose { words } => {
-            let Some(reader) = reader_of(words, kept) else {
+        Call::ReaderClose { reader: lent } => {
+            let Some(reader) = kept.reader_of(lent.words()) else {
                 return refused(Refusal::NotMakeable);
             };
             match reader.close() {
                 Ok(closing) => {
-                    *words = reader.words();
+                    lent.get_mut().words = reader.words();
+                    if let Some(seen) = &mut kept.seen {
+                        seen.finished = true;
+                    }
                     match closing {
                         Closing::Clean => fields([0, 1]),
                         Closing::Truncated => fields([0, 2, http::Error::Truncated as u64]),
@@ -79,6 +115,41 @@ pub fn answer(call: &mut Call, kept: &mut Option<Reader>) -> Answer {
                 Err(refusal) => refused(refusal),
             }
         }
+        Call::ReaderLook { reader } => match kept.seen_of(reader.words()) {
+            None => refused(Refusal::NotMakeable),
+            Some(seen) => {
+                let (finished, limit) = (u64::from(seen.finished), seen.opening.limit);
+                match seen.look() {
+                    Where::Between => fields([0, finished, limit]),
+                    Where::Type => fields([0, finished, limit, 1]),
+                    Where::Length { capsule_type } => fields([0, finished, limit, 2, capsule_type]),
+                    Where::Value {
+                        capsule_type,
+                        length,
+                        come,
+                        stored,
+                    } => {
+                        let (gathered, buffer) = match stored {
+                            Stored::Nowhere => (0, 0),
+                            Stored::Gathering => (come, 1),
+                            Stored::Addresses => (come, 2),
+                        };
+                        let to_come = length - come;
+                        fields([
+                            0,
+                            finished,
+                            limit,
+                            3,
+                            capsule_type,
+                            length,
+                            to_come,
+                            gathered,
+                            buffer,
+                        ])
+                    }
+                }
+            }
+        },
         Call::List { bytes } => match oneshot::count(&bytes.0) {
             Ok(counts) => {
                 let end = match counts.closing {
@@ -94,39 +165,61 @@ pub fn answer(call: &mut Call, kept: &mut Option<Reader>) -> Answer {
             id,
             semantics,
         } => {
-            let (quarters, marks) = (table.quarters.get_mut(), table.marks.get_mut());
-            count(table::open(quarters, marks, *id, *semantics != 0))
+            let mut records = records(table.get());
+            let opened = table::open(&mut records, *id, *semantics != 0);
+            give_back(&records, table.get_mut());
+            count(opened)
         }
         Call::StreamClose { table, id, side } => {
             let side = match *side {
                 0 => Side::Receive,
                 _ => Side::Send,
             };
-            let (quarters, marks) = (table.quarters.get_mut(), table.marks.get_mut());
-            count(table::close(quarters, marks, *id, side).map(usize::from))
-        }
-        Call::Judge {
-            table,
-            streams,
-            limit,
-            frame,
-        } => {
-            let (quarters, marks) = (table.quarters.get(), table.marks.get());
-            match judge(quarters, marks, *streams, *limit, &frame.0) {
-                Ok(verdict) => {
-                    let (place, start, length) = match verdict {
-                        Verdict::Delivered { place, start } => {
-                            (place, start, frame.0[start..].len())
-                        }
-                        _ => (0, 0, 0),
-                    };
-                    let error = verdict.error().map_or(0, |error| error as u64);
-                    let [place, start, length] = [place, start, length].map(|part| part as u64);
-                    fields([0, verdict.rule(), place, start, length, error])
-                }
+            let mut records = records(table.get());
+            let closed = table::close(&mut records, *id, side);
+            give_back(&records, table.get_mut());
+            match closed {
+                Ok((place, freed)) => fields([0, place as u64, u64::from(freed)]),
                 Err(refusal) => refused(refusal),
             }
         }
+        Call::StreamFind { table, id } => count(table::find(&records(table.get()), *id)),
+        Call::QuarterOf { id } => match table::quarter_of(*id) {
+            Ok(quarter) => fields([0, quarter]),
+            Err(refusal) => refused(refusal),
+        },
+        Call::StreamIdOf { quarter } => match table::stream_id_of(*quarter) {
+            Some(id) => fields([0, id]),
+            None => fields([1]),
+        },
+        Call::Judge {
+            table,
+            limits,
+            frame,
+        } => match judge(
+            &records(table.get()),
+            limits.stream_limit,
+            limits.datagram_limit,
+            &frame.0,
+        ) {
+            Ok(verdict) => {
+                let (start, length) = match verdict {
+                    Verdict::Delivered { start, .. } => (start, frame.0[start..].len()),
+                    _ => (0, 0),
+                };
+                let (quarter, place) = (verdict.quarter(), verdict.place());
+                fields([
+                    0,
+                    verdict.rule(),
+                    quarter.unwrap_or(0),
+                    place.map_or(0, |place| place as u64),
+                    start as u64,
+                    length as u64,
+                    verdict.error().map_or(0, |error| error as u64),
+                ])
+            }
+            Err(refusal) => refused(refusal),
+        },
         Call::WriteCapsule {
             table,
             id,
@@ -134,33 +227,49 @@ pub fn answer(call: &mut Call, kept: &mut Option<Reader>) -> Answer {
             out,
             place,
         } => {
-            let (quarters, marks) = (table.quarters.get(), table.marks.get());
-            let out = out.get_mut();
+            let (records, out) = (records(table.get()), out.get_mut());
             count(writers::write_capsule(
-                quarters, marks, *id, &payload.0, out, *place,
+                &records, *id, &payload.0, out, *place,
             ))
         }
         Call::WriteFrame {
             table,
             id,
-            settings: [ours, peers],
-            path,
+            terms,
             payload,
             out,
             place,
         } => {
-            let sending = Sending {
-                id: *id,
-                ours: *ours,
-                peers: *peers,
-                path: *path,
-            };
-            let (quarters, marks) = (table.quarters.get(), table.marks.get());
-            let out = out.get_mut();
+            let (records, out) = (records(table.get()), out.get_mut());
+            let sending = sending(*id, terms);
             count(writers::write_frame(
-                quarters, marks, sending, &payload.0, out, *place,
+                &records, sending, &payload.0, out, *place,
             ))
         }
+        Call::WriteFrameHeader {
+            table,
+            id,
+            terms,
+            length,
+            out,
+            place,
+        } => {
+            let (records, out) = (records(table.get()), out.get_mut());
+            let sending = sending(*id, terms);
+            count(writers::write_frame_header(
+                &records, sending, *length, out, *place,
+            ))
+        }
+        Call::WriteDatagram {
+            payload,
+            out,
+            place,
+        } => count(writers::write_datagram(&payload.0, out.get_mut(), *place)),
+        Call::WriteDatagramHeader { length, out, place } => count(writers::write_datagram_header(
+            *length,
+            out.get_mut(),
+            *place,
+        )),
         Call::AddressValueGood {
             capsule_type,
             value,
@@ -230,12 +339,32 @@ pub fn answer(call: &mut Call, kept: &mut Option<Reader>) -> Answer {
     }
 }
 
-/// The reader that has these words, if any has.
-fn reader_of<'a>(words: &[u64; 8], kept: &'a mut Option<Reader>) -> Option<&'a mut Reader> {
-    if kept.as_ref().map(Reader::words) != Some(*words) {
-        *kept = Reader::from_words(*words);
+/// The records of a table for the independent implementation.
+pub fn records(streams: &[Stream]) -> Vec<Record> {
+    let record = |stream: &Stream| Record {
+        quarter: stream.quarter,
+        flags: stream.flags,
+    };
+    streams.iter().map(record).collect()
+}
+
+/// What it left in them.
+fn give_back(records: &[Record], streams: &mut [Stream]) {
+    for (stream, record) in streams.iter_mut().zip(records) {
+        *stream = Stream {
+            quarter: record.quarter,
+            flags: record.flags,
+        };
     }
-    kept.as_mut()
+}
+
+fn sending(id: u64, terms: &FrameTerms) -> Sending {
+    Sending {
+        id,
+        ours: terms.our_setting,
+        peers: terms.peer_setting,
+        path: terms.path_size,
+    }
 }
 
 /// The report, the type, the length and the error.

@@ -1,7 +1,10 @@
 //! Calls made from bytes that a fuzzer chooses.
 
-use crate::call::{Bytes, Rows};
-use crate::{Call, Comparison, Difference, Lent};
+use independent::reader::MARK;
+use maruzhenu::raw::{FrameTerms, Limits, Opening, Stream};
+
+use crate::call::{lent_table, Bytes};
+use crate::{Call, Comparison, Difference, Lent, LentReader};
 
 /// The bytes that are left to choose from. Past their end everything is 0.
 struct Choices<'a>(&'a [u8]);
@@ -35,19 +38,19 @@ impl Choices<'_> {
         Lent::new(&vec![self.byte(); length], 0xa5)
     }
 
-    fn table(&mut self) -> Rows {
-        let (quarters, marks) = (usize::from(self.byte() % 70), usize::from(self.byte()));
-        // Unequal lengths are bad alike; most tables have equal ones.
-        let marks = if marks >= 250 { marks - 250 } else { quarters };
-        let used = usize::from(self.byte() % 70);
-        let mut rows = (vec![0; quarters], vec![0; marks]);
-        for quarter in rows.0.iter_mut().take(used) {
-            *quarter = self.number();
+    fn table(&mut self) -> Lent<Stream> {
+        let (count, used) = (self.byte() % 70, self.byte() % 70);
+        let mut records = vec![Stream::BLANK; count.into()];
+        for record in records.iter_mut().take(used.into()) {
+            record.quarter = self.number();
+            let byte = self.byte();
+            record.flags = u64::from(byte & 0x0f);
+            // Bits that mean nothing are chosen in some records.
+            if byte & 0x10 != 0 {
+                record.flags |= self.number() << 4;
+            }
         }
-        for mark in rows.1.iter_mut().take(used) {
-            *mark = self.byte();
-        }
-        Rows::new(&rows.0, &rows.1)
+        lent_table(&records)
     }
 }
 
@@ -75,18 +78,23 @@ fn reader(
     let mut words = [0; 8];
     if open {
         let flags = choices.byte();
-        let limit = choices.number();
         let call = Call::ReaderOpen {
-            words,
-            role: u64::from(flags & 1),
-            limit,
-            draft: u64::from(flags >> 1 & 1),
-            addresses: u64::from(flags >> 2 & 1),
+            reader: LentReader::new(words),
+            opening: Opening {
+                role: u64::from(flags & 1),
+                datagram_limit: choices.number(),
+                draft: u64::from(flags >> 1 & 1),
+                addresses: u64::from(flags >> 2 & 1),
+            },
         };
         let (_, call) = comparison.make(call)?;
-        words = *call.words().expect("an opening has words");
+        words = call.words().expect("an opening has words");
     } else {
         words = words.map(|_| choices.number());
+        // Without the mark all words are refused alike.
+        if words[0] <= 1 {
+            words[0] += MARK;
+        }
     }
     let limit = usize::try_from(words[1]).map_or(0, |limit| limit.min(65_535));
     let mut gathering = choices.buffer(limit);
@@ -94,11 +102,18 @@ fn reader(
     while !choices.0.is_empty() {
         let what = choices.byte();
         let call = match what {
-            0xff => Call::ReaderClose { words },
+            0xff => Call::ReaderClose {
+                reader: LentReader::new(words),
+            },
+            0xfd => Call::ReaderLook {
+                reader: LentReader::new(words),
+            },
             0xfe => {
                 let place = usize::from(choices.byte() % 8);
                 words[place] = choices.number();
-                Call::ReaderClose { words }
+                Call::ReaderClose {
+                    reader: LentReader::new(words),
+                }
             }
             _ => {
                 let length = usize::from(what & 0x3f);
@@ -112,7 +127,7 @@ fn reader(
                     _ => {}
                 }
                 Call::ReaderFeed {
-                    words,
+                    reader: LentReader::new(words),
                     piece: Bytes(piece),
                     gathering: lent,
                     addresses: second,
@@ -121,7 +136,7 @@ fn reader(
             }
         };
         let (answer, call) = comparison.make(call)?;
-        words = *call.words().expect("each of these calls has words");
+        words = call.words().expect("each of these calls has words");
         if let (
             0,
             Call::ReaderFeed {
@@ -148,6 +163,10 @@ fn table(choices: &mut Choices, comparison: &mut Comparison) -> Result<(), Box<D
     while !choices.0.is_empty() {
         let what = choices.byte();
         let id = choices.number();
+        comparison.make(Call::StreamFind {
+            table: table.clone(),
+            id,
+        })?;
         let call = match what & 1 {
             0 => Call::StreamOpen {
                 table,
@@ -173,15 +192,22 @@ fn table(choices: &mut Choices, comparison: &mut Comparison) -> Result<(), Box<D
 /// A frame judged and a payload written.
 fn datagrams(choices: &mut Choices, comparison: &mut Comparison) -> Result<(), Box<Difference>> {
     let table = choices.table();
-    let (id, limit, streams) = (choices.number(), choices.number(), choices.number());
-    let (settings, path) = ([choices.byte(), choices.byte()], choices.number());
+    let id = choices.number();
+    let limits = Limits {
+        datagram_limit: choices.number(),
+        stream_limit: choices.number(),
+    };
+    let terms = FrameTerms {
+        our_setting: choices.byte().into(),
+        peer_setting: choices.byte().into(),
+        path_size: choices.number(),
+    };
     let (room, place) = (usize::from(choices.byte()), choices.number());
-    let out = choices.buffer(room);
+    let (out, length) = (choices.buffer(room), choices.number());
     let bytes = Bytes(choices.bytes(usize::MAX));
     comparison.make(Call::Judge {
         table: table.clone(),
-        streams,
-        limit,
+        limits,
         frame: bytes.clone(),
     })?;
     comparison.make(Call::WriteCapsule {
@@ -191,15 +217,36 @@ fn datagrams(choices: &mut Choices, comparison: &mut Comparison) -> Result<(), B
         out: out.clone(),
         place,
     })?;
+    for length in [bytes.0.len() as u64, length] {
+        comparison.make(Call::WriteFrameHeader {
+            table: table.clone(),
+            id,
+            terms,
+            length,
+            out: out.clone(),
+            place,
+        })?;
+        comparison.make(Call::WriteDatagramHeader {
+            length,
+            out: out.clone(),
+            place,
+        })?;
+    }
+    comparison.make(Call::WriteDatagram {
+        payload: bytes.clone(),
+        out: out.clone(),
+        place,
+    })?;
     comparison.make(Call::WriteFrame {
         table,
         id,
-        settings: settings.map(u64::from),
-        path,
+        terms,
         payload: bytes,
         out,
         place,
     })?;
+    comparison.make(Call::QuarterOf { id })?;
+    comparison.make(Call::StreamIdOf { quarter: id })?;
     Ok(())
 }
 

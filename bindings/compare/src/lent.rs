@@ -2,6 +2,8 @@
 
 use std::fmt;
 
+use maruzhenu::raw::{Reader, Stream};
+
 const GUARD: usize = 16;
 
 /// A lent buffer. Two are equal only if what stands around them is equal too.
@@ -55,9 +57,59 @@ impl fmt::Debug for Lent<u8> {
     }
 }
 
-impl fmt::Debug for Lent<u64> {
+impl fmt::Debug for Lent<Stream> {
     fn fmt(&self, formatter: &mut fmt::Formatter) -> fmt::Result {
-        fmt::Debug::fmt(self.get(), formatter)
+        let records = self.get().iter();
+        let shown = records.map(|record| format!("{} {:x}", record.quarter, record.flags));
+        let shown: Vec<String> = shown.collect();
+        write!(formatter, "quarters and flags [{}]", shown.join(", "))
+    }
+}
+
+/// A reader that is lent to a call, between words that no call may touch.
+#[derive(Clone, PartialEq, Eq)]
+#[repr(C)]
+pub struct LentReader {
+    before: [u64; 4],
+    reader: Reader,
+    behind: [u64; 4],
+}
+
+impl LentReader {
+    pub fn new(words: [u64; 8]) -> LentReader {
+        LentReader {
+            before: [0x3c3c_3c3c_3c3c_3c3c; 4],
+            reader: Reader { words },
+            behind: [0xc3c3_c3c3_c3c3_c3c3; 4],
+        }
+    }
+
+    pub fn get(&self) -> &Reader {
+        &self.reader
+    }
+
+    pub fn get_mut(&mut self) -> &mut Reader {
+        &mut self.reader
+    }
+
+    pub fn words(&self) -> [u64; 8] {
+        self.reader.words
+    }
+
+    /// Whether what stands around it is as it was made.
+    pub fn unharmed(&self) -> bool {
+        *self == LentReader::new(self.words())
+    }
+}
+
+impl fmt::Debug for LentReader {
+    fn fmt(&self, formatter: &mut fmt::Formatter) -> fmt::Result {
+        let harmed = if self.unharmed() {
+            ""
+        } else {
+            ", written outside"
+        };
+        write!(formatter, "words {:x?}{harmed}", self.words())
     }
 }
 

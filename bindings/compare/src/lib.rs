@@ -1,5 +1,5 @@
-//! The calls of the verified library, made on it and on the independent implementation, and compared: every answer,
-//! every state word, and every byte that was lent, with some around it.
+//! The calls of the verified library, made on it in numbers and with types and on the independent implementation, and
+//! compared: every answer, every state word, and every byte that was lent, with some around it.
 
 #![forbid(unsafe_code)]
 
@@ -9,9 +9,10 @@ mod comparison;
 mod expected;
 mod from_bytes;
 mod lent;
+mod typed;
 mod verified;
 
-pub use call::{Answer, Call, Rows, FUNCTIONS};
+pub use call::{Answer, Call, FUNCTIONS};
 pub use comparison::{Comparison, Difference};
 pub use from_bytes::compare_bytes;
-pub use lent::Lent;
+pub use lent::{Lent, LentReader};

@@ -1,4 +1,4 @@
-//! A call made on the verified library.
+//! A call made on the verified library, in numbers.
 
 use maruzhenu::raw;
 
@@ -14,35 +14,44 @@ pub fn answer(call: &mut Call) -> Answer {
         Call::WriteVarint { number, out, place } => {
             written(raw::write_varint(*number, out.get_mut(), *place))
         }
-        Call::ReaderOpen {
-            words,
-            role,
-            limit,
-            draft,
-            addresses,
-        } => one(raw::reader_open(words, *role, *limit, *draft, *addresses)),
+        Call::ReaderOpen { reader, opening } => one(raw::reader_open(reader.get_mut(), *opening)),
         Call::ReaderFeed {
-            words,
+            reader,
             piece,
             gathering,
             addresses,
             output,
         } => {
             let (gathering, addresses) = (gathering.get_mut(), addresses.get_mut());
-            let fed = raw::reader_feed(words, &piece.0, gathering, addresses, output.get_mut());
+            let output = output.get_mut();
+            let fed = raw::reader_feed(reader.get_mut(), &piece.0, gathering, addresses, output);
             fields([
                 fed.refusal,
                 fed.consumed,
                 fed.written,
                 fed.report,
-                fed.capsule_type,
+                fed.r#type,
                 fed.length,
                 fed.error,
             ])
         }
-        Call::ReaderClose { words } => {
-            let closed = raw::reader_close(words);
+        Call::ReaderClose { reader } => {
+            let closed = raw::reader_close(reader.get_mut());
             fields([closed.refusal, closed.end, closed.error])
+        }
+        Call::ReaderLook { reader } => {
+            let look = raw::reader_look(reader.get());
+            fields([
+                look.refusal,
+                look.finished,
+                look.datagram_limit,
+                look.field,
+                look.r#type,
+                look.length,
+                look.to_come,
+                look.gathered,
+                look.buffer,
+            ])
         }
         Call::List { bytes } => {
             let list = raw::list(&bytes.0);
@@ -53,26 +62,35 @@ pub fn answer(call: &mut Call) -> Answer {
             id,
             semantics,
         } => {
-            let (quarters, marks) = (table.quarters.get_mut(), table.marks.get_mut());
-            let opened = raw::stream_open(quarters, marks, *id, *semantics);
+            let opened = raw::stream_open(table.get_mut(), *id, *semantics);
             fields([opened.refusal, opened.place])
         }
         Call::StreamClose { table, id, side } => {
-            let (quarters, marks) = (table.quarters.get_mut(), table.marks.get_mut());
-            let closed = raw::stream_close(quarters, marks, *id, *side);
-            fields([closed.refusal, closed.freed])
+            let closed = raw::stream_close(table.get_mut(), *id, *side);
+            fields([closed.refusal, closed.place, closed.freed])
+        }
+        Call::StreamFind { table, id } => {
+            let found = raw::stream_find(table.get(), *id);
+            fields([found.refusal, found.place])
+        }
+        Call::QuarterOf { id } => {
+            let quarter = raw::quarter_of(*id);
+            fields([quarter.refusal, quarter.quarter])
+        }
+        Call::StreamIdOf { quarter } => {
+            let id = raw::stream_id_of(*quarter);
+            fields([id.too_large, id.stream_id])
         }
         Call::Judge {
             table,
-            streams,
-            limit,
+            limits,
             frame,
         } => {
-            let (quarters, marks) = (table.quarters.get(), table.marks.get());
-            let judged = raw::judge(quarters, marks, *streams, *limit, &frame.0);
+            let judged = raw::judge(table.get(), *limits, &frame.0);
             fields([
                 judged.refusal,
                 judged.rule,
+                judged.quarter,
                 judged.place,
                 judged.start,
                 judged.length,
@@ -85,37 +103,50 @@ pub fn answer(call: &mut Call) -> Answer {
             payload,
             out,
             place,
-        } => {
-            let (quarters, marks) = (table.quarters.get(), table.marks.get());
-            written(raw::write_capsule(
-                quarters,
-                marks,
-                *id,
-                &payload.0,
-                out.get_mut(),
-                *place,
-            ))
-        }
+        } => written(raw::write_capsule(
+            table.get(),
+            *id,
+            &payload.0,
+            out.get_mut(),
+            *place,
+        )),
         Call::WriteFrame {
             table,
             id,
-            settings,
-            path,
+            terms,
             payload,
             out,
             place,
-        } => {
-            let (quarters, marks) = (table.quarters.get(), table.marks.get());
-            written(raw::write_frame(
-                quarters,
-                marks,
-                *id,
-                *settings,
-                *path,
-                &payload.0,
-                out.get_mut(),
-                *place,
-            ))
+        } => written(raw::write_frame(
+            table.get(),
+            *id,
+            *terms,
+            &payload.0,
+            out.get_mut(),
+            *place,
+        )),
+        Call::WriteFrameHeader {
+            table,
+            id,
+            terms,
+            length,
+            out,
+            place,
+        } => written(raw::write_frame_header(
+            table.get(),
+            *id,
+            *terms,
+            *length,
+            out.get_mut(),
+            *place,
+        )),
+        Call::WriteDatagram {
+            payload,
+            out,
+            place,
+        } => written(raw::write_datagram(&payload.0, out.get_mut(), *place)),
+        Call::WriteDatagramHeader { length, out, place } => {
+            written(raw::write_datagram_header(*length, out.get_mut(), *place))
         }
         Call::AddressValueGood {
             capsule_type,

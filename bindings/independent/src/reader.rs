@@ -6,6 +6,8 @@ use crate::Refusal;
 
 mod words;
 
+pub use words::MARK;
+
 /// The DATAGRAM capsule type, RFC 9297 section 3.5.
 const DATAGRAM: u64 = 0x00;
 /// The DATAGRAM capsule type of draft 05.
@@ -167,7 +169,7 @@ impl Reader {
 
     #[inline]
     fn is_datagram(&self, capsule_type: u64) -> bool {
-        capsule_type == DATAGRAM || (self.draft && capsule_type == DATAGRAM_OF_DRAFT)
+        is_datagram(capsule_type, self.draft)
     }
 
     /// Whether address capsules are something else than capsules of unknown type.
@@ -310,6 +312,12 @@ impl Reader {
         };
         (here, Some(report))
     }
+}
+
+/// Whether a type is DATAGRAM, to a reader with that setting.
+#[inline]
+pub(crate) fn is_datagram(capsule_type: u64, draft: bool) -> bool {
+    capsule_type == DATAGRAM || (draft && capsule_type == DATAGRAM_OF_DRAFT)
 }
 
 /// How far one call came.

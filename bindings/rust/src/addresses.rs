@@ -16,10 +16,11 @@
 //! # Ok::<(), maruzhenu::Refusal>(())
 //! ```
 
-use std::net::{IpAddr, Ipv4Addr, Ipv6Addr};
+use core::iter::FusedIterator;
+use core::net::{IpAddr, Ipv4Addr, Ipv6Addr};
 
 pub use crate::raw::{Address, Route};
-use crate::{raw, Refusal};
+use crate::{count, raw, Refusal};
 
 /// The longest value of an address capsule, in bytes.
 pub const LONGEST_VALUE: usize = 1_024;
@@ -37,12 +38,14 @@ pub enum AddressType {
 
 impl AddressType {
     /// The capsule type.
-    pub fn number(self) -> u64 {
+    #[must_use]
+    pub const fn number(self) -> u64 {
         self as u64
     }
 
     /// The type with a number, if it is one of these.
-    pub fn from_number(number: u64) -> Option<AddressType> {
+    #[must_use]
+    pub const fn from_number(number: u64) -> Option<AddressType> {
         match number {
             1 => Some(AddressType::Assign),
             2 => Some(AddressType::Request),
@@ -77,6 +80,7 @@ fn ip(version: u8, bytes: [u8; 16]) -> Option<IpAddr> {
 
 impl Address {
     /// An entry. Request ID 0 in an ADDRESS_ASSIGN says that nobody asked.
+    #[must_use]
     pub fn new(request_id: u64, ip: IpAddr, prefix_length: u8) -> Address {
         let (ip_version, address) = bytes(ip);
         Address {
@@ -89,6 +93,7 @@ impl Address {
     }
 
     /// The address, or `None` where the version is neither 4 nor 6, which is never so in what was read.
+    #[must_use]
     pub fn ip(&self) -> Option<IpAddr> {
         ip(self.ip_version, self.address)
     }
@@ -96,11 +101,13 @@ impl Address {
 
 impl Route {
     /// A range of addresses of version 4. Protocol 0 stands for all protocols.
+    #[must_use]
     pub fn v4(start: Ipv4Addr, end: Ipv4Addr, ip_protocol: u8) -> Route {
         Route::new(start.into(), end.into(), ip_protocol)
     }
 
     /// A range of addresses of version 6. Protocol 0 stands for all protocols.
+    #[must_use]
     pub fn v6(start: Ipv6Addr, end: Ipv6Addr, ip_protocol: u8) -> Route {
         Route::new(start.into(), end.into(), ip_protocol)
     }
@@ -118,6 +125,7 @@ impl Route {
 
     /// The first and the last address, or `None` where the version is neither 4 nor 6, which is never so in what was
     /// read.
+    #[must_use]
     pub fn range(&self) -> Option<(IpAddr, IpAddr)> {
         Some((
             ip(self.ip_version, self.start)?,
@@ -127,12 +135,14 @@ impl Route {
 }
 
 /// Whether a value is well formed for an address capsule of a type.
+#[must_use]
 pub fn well_formed(capsule_type: AddressType, value: &[u8]) -> bool {
     raw::address_value_good(capsule_type.number(), value) == 1
 }
 
 /// The entries of a value, one after another. They are not judged: of a value that was delivered all are good.
 #[derive(Clone, Debug)]
+#[must_use]
 pub struct Entries<'a, T> {
     value: &'a [u8],
     next: fn(&[u8], u64) -> (u64, u64, T),
@@ -142,6 +152,7 @@ pub struct Entries<'a, T> {
 impl<'a, T> Entries<'a, T> {
     /// What has not been handed out. Once there are no more entries it is empty, but for a malformed value that does
     /// not end with a whole entry.
+    #[must_use]
     pub fn rest(&self) -> &'a [u8] {
         &self.value[self.at as usize..]
     }
@@ -156,6 +167,8 @@ impl<T> Iterator for Entries<'_, T> {
         (found == 1).then_some(entry)
     }
 }
+
+impl<T> FusedIterator for Entries<'_, T> {}
 
 /// The entries of a value of an ADDRESS_ASSIGN or ADDRESS_REQUEST capsule.
 pub fn addresses(value: &[u8]) -> Entries<'_, Address> {
@@ -192,7 +205,7 @@ pub fn write_address_assign(
     place: usize,
 ) -> Result<usize, Refusal> {
     let entries = raw::address_bytes(addresses);
-    written(raw::write_address_assign(entries, out, place as u64))
+    count(raw::write_address_assign(entries, out, place as u64))
 }
 
 /// Writes an ADDRESS_REQUEST capsule at a place of `out`. Answers how many bytes were written.
@@ -205,7 +218,7 @@ pub fn write_address_request(
     place: usize,
 ) -> Result<usize, Refusal> {
     let entries = raw::address_bytes(addresses);
-    written(raw::write_address_request(entries, out, place as u64))
+    count(raw::write_address_request(entries, out, place as u64))
 }
 
 /// Writes a ROUTE_ADVERTISEMENT capsule at a place of `out`. Answers how many bytes were written.
@@ -218,10 +231,5 @@ pub fn write_route_advertisement(
     place: usize,
 ) -> Result<usize, Refusal> {
     let entries = raw::route_bytes(routes);
-    written(raw::write_route_advertisement(entries, out, place as u64))
-}
-
-fn written(written: raw::Written) -> Result<usize, Refusal> {
-    Refusal::check(written.refusal)?;
-    Ok(written.written as usize)
+    count(raw::write_route_advertisement(entries, out, place as u64))
 }

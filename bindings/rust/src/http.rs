@@ -1,9 +1,30 @@
 //! Settings, messages, the Capsule-Protocol field, and what an error becomes on each version of HTTP.
+//!
+//! ```
+//! use maruzhenu::http::{self, Action, Error, Fields, Message, Version};
+//!
+//! assert_eq!(http::setting_error(1, 0), None);
+//! assert_eq!(http::setting_error(0, 1), Some(Error::BadSetting));
+//!
+//! let fields = Fields { content_length: true, ..Fields::default() };
+//! assert!(http::malformed(Message::Request, fields));
+//! assert!(http::malformed(Message::Response { status: 204 }, Fields::default()));
+//!
+//! assert!(http::field_counts(Message::Response { status: 101 }));
+//! assert!(http::field_in_use(b" ?1 "));
+//!
+//! assert_eq!(Error::Truncated.on(Version::Http3), Action::StreamError { code: 0x010e });
+//! assert_eq!(Error::ShortFrame.on(Version::Http2), Action::None);
+//! ```
+
+use core::fmt;
 
 use crate::raw;
 
-/// An error that a peer has made.
-#[derive(Clone, Copy, Debug, PartialEq, Eq, Hash)]
+/// An error that a peer has made, as the archive answers it.
+#[derive(Clone, Copy, Debug, PartialEq, Eq, PartialOrd, Ord, Hash)]
+#[non_exhaustive]
+#[repr(u8)]
 pub enum Error {
     /// A stream of capsules ended within one.
     Truncated = 1,
@@ -22,76 +43,134 @@ pub enum Error {
 }
 
 impl Error {
-    /// The number of the error, 1 to 7.
-    pub fn number(self) -> u64 {
+    /// All errors, by their numbers.
+    pub const ALL: [Error; 7] = [
+        Error::Truncated,
+        Error::NoSemantics,
+        Error::ShortFrame,
+        Error::QuarterTooLarge,
+        Error::BeyondLimit,
+        Error::BadSetting,
+        Error::Malformed,
+    ];
+
+    /// The number of the error, that of `MRZ_ERROR_..` in C.
+    #[must_use]
+    pub const fn number(self) -> u64 {
         self as u64
     }
 
-    /// What the error becomes.
-    ///
-    /// ```
-    /// use maruzhenu::http::{Action, Error, Version};
-    ///
-    /// let action = Error::Truncated.on(Version::Http3);
-    /// assert_eq!(action, Action::StreamError { code: 0x010e });
-    /// assert_eq!(Error::ShortFrame.on(Version::Http2), Action::None);
-    /// ```
+    /// The error with a number, or `None` for 0 and for a number that no error has.
+    #[inline]
+    #[must_use]
+    pub fn from_number(number: u64) -> Option<Error> {
+        match number {
+            1 => Some(Error::Truncated),
+            2 => Some(Error::NoSemantics),
+            3 => Some(Error::ShortFrame),
+            4 => Some(Error::QuarterTooLarge),
+            5 => Some(Error::BeyondLimit),
+            6 => Some(Error::BadSetting),
+            7 => Some(Error::Malformed),
+            _ => None,
+        }
+    }
+
+    /// The error of an answer, where there is one.
+    #[inline]
+    pub(crate) fn answered(number: u64) -> Option<Error> {
+        if number == 0 {
+            return None;
+        }
+        Some(Error::from_number(number).expect("the archive gives no other error"))
+    }
+
+    /// What the error becomes on a version of HTTP.
+    #[must_use]
     pub fn on(self, version: Version) -> Action {
-        let translation = raw::translate(self.number(), version as u64);
+        let translation = raw::translate(self.number(), version.number());
         let code = translation.code;
-        match translation.action {
-            0 => Action::None,
-            1 => Action::Close { code },
-            2 => Action::StreamError { code },
-            3 => Action::ConnectionError { code },
-            _ => unreachable!("the archive gives no other action"),
+        match (translation.refusal, translation.action) {
+            (0, 0) => Action::None,
+            (0, 1) => Action::Close,
+            (0, 2) => Action::StreamError { code },
+            (0, 3) => Action::ConnectionError { code },
+            _ => unreachable!("the archive knows the error and the version, and no other action"),
         }
     }
 }
 
+impl fmt::Display for Error {
+    fn fmt(&self, formatter: &mut fmt::Formatter<'_>) -> fmt::Result {
+        formatter.write_str(match self {
+            Error::Truncated => "the stream ended within a capsule",
+            Error::NoSemantics => "a datagram came for a request without semantics for them",
+            Error::ShortFrame => "a frame ended within its quarter stream ID",
+            Error::QuarterTooLarge => "a quarter stream ID is above 2^60-1",
+            Error::BeyondLimit => "a quarter stream ID is at or above the stream limit",
+            Error::BadSetting => "the value of SETTINGS_H3_DATAGRAM is not allowed",
+            Error::Malformed => "an address capsule is malformed",
+        })
+    }
+}
+
+impl core::error::Error for Error {}
+
 /// A version of HTTP.
-#[derive(Clone, Copy, Debug, PartialEq, Eq, Hash)]
+#[derive(Clone, Copy, Debug, PartialEq, Eq, PartialOrd, Ord, Hash)]
+#[repr(u8)]
 pub enum Version {
     /// HTTP/1.1
-    Http1 = 1,
+    Http1_1 = 1,
     /// HTTP/2
     Http2 = 2,
     /// HTTP/3
     Http3 = 3,
 }
 
+impl Version {
+    /// The number of the version, that of `MRZ_VERSION_..` in C.
+    #[must_use]
+    pub const fn number(self) -> u64 {
+        self as u64
+    }
+}
+
 /// What an error becomes on a version of HTTP.
 #[derive(Clone, Copy, Debug, PartialEq, Eq, Hash)]
 pub enum Action {
-    /// It cannot arise there: nothing is done.
+    /// It does not arise there: nothing is done.
     None,
-    /// The connection is closed.
-    Close {
-        /// The code, 0.
-        code: u64,
-    },
+    /// The connection is closed. There is no code.
+    Close,
     /// The stream is reset.
     StreamError {
-        /// The error code.
+        /// The error code of that version.
         code: u64,
     },
     /// The connection is closed with an error.
     ConnectionError {
-        /// The error code.
+        /// The error code of that version.
         code: u64,
     },
 }
 
 /// The error in a received SETTINGS_H3_DATAGRAM, beside the value stored for 0-RTT (0 where none is stored).
-///
-/// ```
-/// use maruzhenu::http::{setting_error, Error};
-///
-/// assert_eq!(setting_error(1, 0), None);
-/// assert_eq!(setting_error(0, 1), Some(Error::BadSetting));
-/// ```
+#[must_use]
 pub fn setting_error(received: u64, stored: u64) -> Option<Error> {
-    (raw::setting_error(received, stored) != 0).then_some(Error::BadSetting)
+    Error::answered(raw::setting_error(received, stored))
+}
+
+/// A message that uses the Capsule Protocol, or that carries its field.
+#[derive(Clone, Copy, Debug, PartialEq, Eq, Hash)]
+pub enum Message {
+    /// A request.
+    Request,
+    /// A response.
+    Response {
+        /// Its status.
+        status: u16,
+    },
 }
 
 /// Which of three fields a message carries.
@@ -105,43 +184,33 @@ pub struct Fields {
     pub transfer_encoding: bool,
 }
 
-/// Whether a request that uses capsules is malformed.
-pub fn request_malformed(fields: Fields) -> bool {
-    let malformed = raw::request_malformed(
-        u64::from(fields.content_length),
-        u64::from(fields.content_type),
-        u64::from(fields.transfer_encoding),
-    );
-    malformed == 1
+/// Whether a message that uses the Capsule Protocol is malformed.
+#[must_use]
+pub fn malformed(message: Message, fields: Fields) -> bool {
+    let length = u64::from(fields.content_length);
+    let content_type = u64::from(fields.content_type);
+    let encoding = u64::from(fields.transfer_encoding);
+    let malformed = match message {
+        Message::Request => raw::request_malformed(length, content_type, encoding),
+        Message::Response { status } => {
+            raw::response_malformed(status.into(), length, content_type, encoding)
+        }
+    };
+    malformed != 0
 }
 
-/// Whether a response that uses capsules is malformed.
-pub fn response_malformed(status: u16, fields: Fields) -> bool {
-    let malformed = raw::response_malformed(
-        u64::from(status),
-        u64::from(fields.content_length),
-        u64::from(fields.content_type),
-        u64::from(fields.transfer_encoding),
-    );
-    malformed == 1
+/// Whether the Capsule-Protocol field counts on a message.
+#[must_use]
+pub fn field_counts(message: Message) -> bool {
+    let counts = match message {
+        Message::Request => raw::field_counts(0, 0),
+        Message::Response { status } => raw::field_counts(1, status.into()),
+    };
+    counts != 0
 }
 
-/// Whether the Capsule-Protocol field counts on requests: it does.
-pub fn field_counts_on_request() -> bool {
-    raw::field_counts(0, 0) == 1
-}
-
-/// Whether the Capsule-Protocol field counts on a response with this status.
-pub fn field_counts_on_response(status: u16) -> bool {
-    raw::field_counts(1, u64::from(status)) == 1
-}
-
-/// Whether the value of the Capsule-Protocol field says that capsules are in use.
-///
-/// ```
-/// assert!(maruzhenu::http::field_in_use(b" ?1 "));
-/// assert!(!maruzhenu::http::field_in_use(b"?0"));
-/// ```
+/// Whether the value of the Capsule-Protocol field says that the Capsule Protocol is in use.
+#[must_use]
 pub fn field_in_use(value: &[u8]) -> bool {
-    raw::field_in_use(value) == 1
+    raw::field_in_use(value) != 0
 }

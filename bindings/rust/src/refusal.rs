@@ -1,12 +1,22 @@
-use std::fmt;
+use core::fmt;
 
 /// Why a call was refused. A refused call has changed nothing, neither a state nor a buffer.
-#[derive(Clone, Copy, Debug, PartialEq, Eq, Hash)]
+///
+/// ```
+/// use maruzhenu::{Opening, Reader, Refusal};
+///
+/// let refusal = Reader::open(Opening::endpoint(65_536)).unwrap_err();
+/// assert_eq!(refusal, Refusal::LimitTooLarge);
+/// assert_eq!((refusal.number(), refusal.name()), (3, "limit too large"));
+/// assert_eq!(refusal.to_string(), "the datagram limit is above 65,535");
+/// ```
+#[derive(Clone, Copy, Debug, PartialEq, Eq, PartialOrd, Ord, Hash)]
 #[non_exhaustive]
+#[repr(u8)]
 pub enum Refusal {
-    /// The reader's words are none that an opening, feedings and a close could make. It cannot arise through
-    /// [`crate::Reader`], which keeps them to itself.
-    NotMakeable = 1,
+    /// The words of the reader are none that an opening, feedings and a close could make. It arises only for a reader
+    /// [from words](crate::Reader::from_raw).
+    UnmakeableState = 1,
     /// The reader is finished.
     Finished = 2,
     /// The datagram limit is above 65,535.
@@ -32,13 +42,13 @@ pub enum Refusal {
     SendSideClosed = 12,
     /// The stream's request has no semantics for datagrams.
     NoSemantics = 13,
-    /// The frame would be longer than the path takes.
-    LongerThanPath = 14,
-    /// The table is bad. It cannot arise through [`crate::Table`], which keeps its rows to itself.
+    /// The frame would be longer than the path carries.
+    FrameTooLong = 14,
+    /// The table is bad: [`crate::table`] says which are.
     BadTable = 15,
     /// The buffer to list is longer than 4,096 bytes.
     BufferTooLong = 16,
-    /// The number of the error or of the HTTP version is unknown.
+    /// The number of the error or of the HTTP version is unknown. It does not arise from [`crate::Error`].
     UnknownErrorOrVersion = 17,
     /// The address buffer of an endpoint that takes address capsules is shorter than 1,024 bytes.
     AddressesTooShort = 18,
@@ -46,37 +56,68 @@ pub enum Refusal {
     MalformedToWrite = 26,
 }
 
-const ALL: [Refusal; 19] = [
-    Refusal::NotMakeable,
-    Refusal::Finished,
-    Refusal::LimitTooLarge,
-    Refusal::GatheringTooShort,
-    Refusal::OutputTooShort,
-    Refusal::NumberTooLarge,
-    Refusal::NotARequestStream,
-    Refusal::NoFreePlace,
-    Refusal::AlreadyInTable,
-    Refusal::NotInTable,
-    Refusal::FramesNotAgreed,
-    Refusal::SendSideClosed,
-    Refusal::NoSemantics,
-    Refusal::LongerThanPath,
-    Refusal::BadTable,
-    Refusal::BufferTooLong,
-    Refusal::UnknownErrorOrVersion,
-    Refusal::AddressesTooShort,
-    Refusal::MalformedToWrite,
-];
-
 impl Refusal {
-    /// The number of the refusal.
-    pub fn number(self) -> u64 {
+    /// All refusals, by their numbers.
+    pub const ALL: [Refusal; 19] = [
+        Refusal::UnmakeableState,
+        Refusal::Finished,
+        Refusal::LimitTooLarge,
+        Refusal::GatheringTooShort,
+        Refusal::OutputTooShort,
+        Refusal::NumberTooLarge,
+        Refusal::NotARequestStream,
+        Refusal::NoFreePlace,
+        Refusal::AlreadyInTable,
+        Refusal::NotInTable,
+        Refusal::FramesNotAgreed,
+        Refusal::SendSideClosed,
+        Refusal::NoSemantics,
+        Refusal::FrameTooLong,
+        Refusal::BadTable,
+        Refusal::BufferTooLong,
+        Refusal::UnknownErrorOrVersion,
+        Refusal::AddressesTooShort,
+        Refusal::MalformedToWrite,
+    ];
+
+    /// The number of the refusal, that of `MRZ_REFUSAL_..` in C.
+    #[must_use]
+    pub const fn number(self) -> u64 {
         self as u64
     }
 
     /// The refusal with a number, or `None` for 0 and for a number that no refusal has.
+    #[must_use]
     pub fn from_number(number: u64) -> Option<Refusal> {
-        ALL.into_iter().find(|refusal| refusal.number() == number)
+        Refusal::ALL
+            .into_iter()
+            .find(|refusal| refusal.number() == number)
+    }
+
+    /// The name of the refusal, that of `MRZ_REFUSAL_..` in small letters.
+    #[must_use]
+    pub const fn name(self) -> &'static str {
+        match self {
+            Refusal::UnmakeableState => "unmakeable state",
+            Refusal::Finished => "finished",
+            Refusal::LimitTooLarge => "limit too large",
+            Refusal::GatheringTooShort => "gathering too short",
+            Refusal::OutputTooShort => "output too short",
+            Refusal::NumberTooLarge => "number too large",
+            Refusal::NotARequestStream => "not a request stream",
+            Refusal::NoFreePlace => "no free place",
+            Refusal::AlreadyInTable => "already in table",
+            Refusal::NotInTable => "not in table",
+            Refusal::FramesNotAgreed => "frames not agreed",
+            Refusal::SendSideClosed => "send side closed",
+            Refusal::NoSemantics => "no semantics",
+            Refusal::FrameTooLong => "frame too long",
+            Refusal::BadTable => "bad table",
+            Refusal::BufferTooLong => "buffer too long",
+            Refusal::UnknownErrorOrVersion => "unknown error or version",
+            Refusal::AddressesTooShort => "addresses too short",
+            Refusal::MalformedToWrite => "malformed to write",
+        }
     }
 
     /// `Ok` where a call was not refused.
@@ -90,9 +131,9 @@ impl Refusal {
 }
 
 impl fmt::Display for Refusal {
-    fn fmt(&self, formatter: &mut fmt::Formatter) -> fmt::Result {
+    fn fmt(&self, formatter: &mut fmt::Formatter<'_>) -> fmt::Result {
         formatter.write_str(match self {
-            Refusal::NotMakeable => "no opening, feedings and close make such a reader",
+            Refusal::UnmakeableState => "no opening, feedings and close make such a reader",
             Refusal::Finished => "the reader is finished",
             Refusal::LimitTooLarge => "the datagram limit is above 65,535",
             Refusal::GatheringTooShort => "the gathering buffer is shorter than the limit",
@@ -105,7 +146,7 @@ impl fmt::Display for Refusal {
             Refusal::FramesNotAgreed => "the settings do not agree on frames",
             Refusal::SendSideClosed => "the send side is closed",
             Refusal::NoSemantics => "the request has no semantics for datagrams",
-            Refusal::LongerThanPath => "the frame is longer than the path takes",
+            Refusal::FrameTooLong => "the frame is longer than the path carries",
             Refusal::BadTable => "the table is bad",
             Refusal::BufferTooLong => "the buffer to list is longer than 4,096 bytes",
             Refusal::UnknownErrorOrVersion => "the error or the HTTP version is unknown",
@@ -115,20 +156,4 @@ impl fmt::Display for Refusal {
     }
 }
 
-impl std::error::Error for Refusal {}
-
-#[cfg(test)]
-mod tests {
-    use super::*;
-
-    #[test]
-    fn numbers() {
-        for (number, refusal) in (1..=18).chain([26]).zip(ALL) {
-            assert_eq!(refusal.number(), number);
-            assert_eq!(Refusal::from_number(number), Some(refusal));
-        }
-        for number in [0, 19, 25, 27, u64::MAX] {
-            assert_eq!(Refusal::from_number(number), None);
-        }
-    }
-}
+impl core::error::Error for Refusal {}

@@ -21,20 +21,19 @@ use Rattle.capsule.specs.declared.reader.Verdict.the-variants.{Accepted, Refuse
 use Rattle.capsule.specs.Book.{partsFor, onlyIf, fromCapsules, fromTail, fromParts, forwarded, firstOf, completes, append, reported, endedBy, payloadBy, gained, endOf, newBook, bookVerdict, bookFeed, bookClose, bookCall}
 use Rattle.capsule.specs.Reader.{fresh, isOpening, openOf, isMakeablePhase, isMakeable, verdictOf, planValue, planHead, planLength, planType, planOf, heldOf, wrote, stored, fedBy, takeOf, feedBy, feedOf, endAt, closeOf, lengthOf, judgedIn, frontOf, feedReply, closeReply, readerCall}
 use Rattle.capsule_laws.specs.Claims.{leftBy, HandedOn, ifDelivered, delivered}
-use Rattle.streams.specs.Records.{bothClosed, isBlank, isBadRecord, holds}
-use Rattle.streams.specs.Tables.{anyBad, standsIn, standsTwice, isBad, next, find}
-use Rattle.streams.specs.Rows.{recordOf, tableOf}
-use Rattle.datagram.specs.Judging.{ruleOf, judgedRows, payloadRows, judgedRecord, judgedFound, judgedQuarter, judgedRead, judgedOf, behind, isDelivered, ifDelivered as onlyDeliveredFrame, payloadOf}
-use Rattle.datagram.specs.Sending.{capsuleBytes, frameBytes, agreed, sendingRecord, sendingQuarter, sendingOf, putCapsule, putFrame, capsuleWritten, frameWritten, writeCapsule, writeFrame, sendingRows, writeCapsuleRows, writeFrameRows}
+use Rattle.streams.specs.Records.{flag, bothClosed, isBlank, isBadRecord, holds}
+use Rattle.streams.specs.Tables.{anyBad, standsIn, standsTwice, isBad, next, find, entryAt as entryInTable}
+use Rattle.datagram.specs.Judging.{ruleOf, judgedRecord, judgedEntry, judgedRead, judgedOf, afterQuarter, isDelivered, ifDelivered as onlyDeliveredFrame, payloadOf}
+use Rattle.datagram.specs.Sending.{capsuleHeader, capsuleBytes, frameBytes, agreed, sendingRecord, sendingEntry, sendingOf, putCapsule, putFrame, capsuleWritten, frameWritten, writeCapsule, writeFrame}
 use Rattle.bench_cases.specs.Starred.{outcomeOf, AllStarred}
 use Rattle.bench_cases.specs.Pins.{All, onTheWire, onStreams, bothRefused, unmakeable, onLists, exchanges, answersOf, onAddresses, onFrames, Pinned, intermediary, refusedBetween, optedIn, shortBetween, PremiseNeeded}
 
 headed : (n : ℕ) (bytes : List ℕ) → 0 ∷ encode n ≡ bytes → (payload : List ℕ) → length payload ≡ n → capsuleBytes payload ≡ bytes ++ payload
-unfolding capsuleBytes
+unfolding capsuleBytes capsuleHeader
 headed n bytes e payload l = ap (λ (k : ℕ). 0 ∷ (encode k ++ payload)) l ∙ ap (λ (h : List ℕ). h ++ payload) e
 
 pub all-starred : AllStarred
-unfolding outcomeOf partsFor partsBy cutBy frontBy capsuleAt readVarint sizeOf valueOf num numFrom optedBy opted kindOf extentBy extentOf reportBy reportOf judged finishes finishesIn onlyDelivered forwardsBy forwards isAddressType reported onlyIf fromCapsules fromTail fromParts forwarded endOf ifDelivered delivered judgedRecord judgedFound judgedQuarter judgedRead judgedOf behind isDelivered onlyDeliveredFrame payloadOf bothClosed isBlank isBadRecord holds anyBad standsIn standsTwice isBad next find capsuleBytes encode encodeAs leastWidth bytesOf largestQuarter
+unfolding outcomeOf partsFor partsBy cutBy frontBy capsuleAt readVarint sizeOf valueOf num numFrom optedBy opted kindOf extentBy extentOf reportBy reportOf judged finishes finishesIn onlyDelivered forwardsBy forwards isAddressType reported onlyIf fromCapsules fromTail fromParts forwarded endOf ifDelivered delivered judgedRecord judgedEntry judgedRead judgedOf afterQuarter isDelivered onlyDeliveredFrame payloadOf flag bothClosed isBlank isBadRecord holds anyBad standsIn standsTwice isBad next find entryInTable capsuleBytes encode encodeAs leastWidth bytesOf largestQuarter
 all-starred = (refl, (refl, (refl, (refl, (refl, (refl, (refl, (refl, (refl, (refl, (refl, (refl, (refl, (refl, ((refl, refl), ((refl, refl), ((refl, refl), ((refl, refl), ((refl, refl), ((refl, refl), (headed 63 _ refl, (headed 64 _ refl, (headed 16383 _ refl, (headed 16384 _ refl, tt))))))))))))))))))))))))
 
 on-the-wire : All onTheWire
@@ -63,8 +62,8 @@ unfolding outcomeOf ifDelivered delivered many readVarint sizeOf valueOf num num
 on-addresses = ((refl, refl), ((refl, refl), ((refl, refl), ((refl, refl), ((refl, refl), (refl, (refl, (refl, (refl, (refl, (refl, (refl, (refl, (refl, (refl, (refl, (refl, (refl, (refl, (refl, (refl, (refl, (refl, (refl, (refl, (refl, tt))))))))))))))))))))))))))
 
 on-frames : All onFrames
-unfolding recordOf tableOf ruleOf judgedRows payloadRows sendingRows writeCapsuleRows writeFrameRows judgedRecord judgedFound judgedQuarter judgedRead judgedOf behind isDelivered onlyDeliveredFrame payloadOf bothClosed isBlank isBadRecord holds anyBad standsIn standsTwice isBad next find capsuleBytes frameBytes agreed sendingRecord sendingQuarter sendingOf putCapsule putFrame capsuleWritten frameWritten writeCapsule writeFrame readVarint sizeOf valueOf num numFrom encode encodeAs leastWidth bytesOf writeAt refuses quarterOf isRequest largestQuarter
-on-frames = ((refl, refl), ((refl, refl), ((refl, refl), ((refl, refl), ((refl, refl), ((refl, refl), ((refl, refl), ((refl, refl), ((refl, refl), ((refl, refl), ((refl, refl), ((refl, refl), ((refl, refl), ((refl, refl), (refl, (refl, (refl, (refl, (refl, (refl, (refl, (refl, (refl, (refl, (refl, (refl, (refl, (refl, (refl, (refl, (refl, (refl, (refl, (refl, (refl, (refl, (refl, (refl, (refl, (refl, (refl, ((refl, refl), ((refl, refl), ((refl, refl), ((refl, refl), ((refl, refl), ((refl, refl), (refl, (refl, (refl, (refl, (refl, (refl, ((refl, refl), ((refl, refl), ((refl, refl), ((refl, refl), ((refl, refl), ((refl, refl), ((refl, refl), ((refl, refl), ((refl, refl), tt))))))))))))))))))))))))))))))))))))))))))))))))))))))))))))))
+unfolding ruleOf judgedRecord judgedEntry judgedRead judgedOf afterQuarter isDelivered onlyDeliveredFrame payloadOf flag bothClosed isBlank isBadRecord holds anyBad standsIn standsTwice isBad next find entryInTable capsuleHeader capsuleBytes frameBytes agreed sendingRecord sendingEntry sendingOf putCapsule putFrame capsuleWritten frameWritten writeCapsule writeFrame readVarint sizeOf valueOf num numFrom encode encodeAs leastWidth bytesOf writeAt refuses quarterOf isRequest largestQuarter
+on-frames = ((refl, refl), ((refl, refl), ((refl, refl), ((refl, refl), ((refl, refl), ((refl, refl), ((refl, refl), ((refl, refl), ((refl, refl), ((refl, refl), ((refl, refl), ((refl, refl), ((refl, refl), ((refl, refl), ((refl, refl), ((refl, refl), (refl, (refl, (refl, (refl, (refl, (refl, (refl, (refl, (refl, (refl, (refl, (refl, (refl, (refl, (refl, (refl, (refl, (refl, (refl, (refl, (refl, (refl, (refl, (refl, (refl, (refl, (refl, (refl, (refl, ((refl, refl), ((refl, refl), ((refl, refl), (refl, (refl, ((refl, refl), ((refl, refl), ((refl, refl), ((refl, refl), (refl, (refl, (refl, (refl, ((refl, refl), ((refl, refl), ((refl, refl), ((refl, refl), ((refl, refl), ((refl, refl), ((refl, refl), ((refl, refl), ((refl, refl), tt)))))))))))))))))))))))))))))))))))))))))))))))))))))))))))))))))))
 
 pub pinned : Pinned
 pinned = (on-the-wire, on-streams, on-unmakeable, on-lists, on-exchanges, on-addresses, on-frames)

@@ -38,7 +38,7 @@ use Rattle.capsule.specs.declared.reader.CloseAnswer.{CloseAnswer}
 use Rattle.capsule.specs.declared.reader.CloseAnswer.the-variants as closedAs
 use Rattle.capsule.specs.Calls.{Lent, lent, Call, feed, close, Reply, refused, fed, closed, run}
 use Rattle.capsule.specs.Book.{newBook, bookCall}
-use Rattle.capsule.specs.Reader.{opening, fresh, openOf, isMakeable, Feeding, feeding, feedOf, closing, closeOf, readerCall}
+use Rattle.capsule.specs.Reader.{opening, fresh, openOf, isMakeable, feeding, feedOf, closing, closeOf, readerCall}
 use Rattle.bench_cases.specs.Starred.{Outcome, outcomeOf, outcome, S}
 use Rattle.streams.specs.declared.record.StreamRecord.{StreamRecord}
 use Rattle.streams.specs.Records.{blank, opened}
@@ -46,8 +46,8 @@ use Rattle.streams.specs.Tables.{Table}
 use Rattle.datagram.specs.declared.judge.Judged.{Judged}
 use Rattle.datagram.specs.declared.judge.Judged.the-variants as judged
 use mathlib.Core.Option.{Option, none, some}
-use Rattle.datagram.specs.Judging.{judgedOf, payloadOf, judgedRows, payloadRows, ruleOf, isDelivered}
-use Rattle.datagram.specs.Sending.{writeCapsule, writeFrame, writeCapsuleRows, writeFrameRows}
+use Rattle.datagram.specs.Judging.{quarter, judgedOf, payloadOf, ruleOf, isDelivered}
+use Rattle.datagram.specs.Sending.{writeCapsule, writeFrame}
 
 pub data Pin : Type 0 where
   -- bytes, and what is read at their front
@@ -76,10 +76,6 @@ pub data Pin : Type 0 where
   capsules : (table : Table) (id : ℕ) (payload out : List ℕ) (place : ℕ) → Written → (after : List ℕ) → Pin
   -- besides, our setting, the peer's and the path size
   frames : (table : Table) (id ours peers path : ℕ) (payload out : List ℕ) (place : ℕ) → Written → (after : List ℕ) → Pin
-  -- the same over two rows: the quarters and the marks
-  judgesRows : (qs ms : List ℕ) (streams limit : ℕ) (frame : List ℕ) → Judged → (payload : List ℕ) → Pin
-  capsulesRows : (qs ms : List ℕ) (id : ℕ) (payload out : List ℕ) (place : ℕ) → Written → (after : List ℕ) → Pin
-  framesRows : (qs ms : List ℕ) (id ours peers path : ℕ) (payload out : List ℕ) (place : ℕ) → Written → (after : List ℕ) → Pin
   -- the number of a judgement's rule, and whether it delivers
   rules : Judged → Option ℕ → Bool → Pin
 
@@ -98,9 +94,6 @@ Holds (answers op cs rs) = (run bookCall (newBook op) cs .1 ≡ rs) × (run read
 Holds (judges t n limit bytes j payload) = (judgedOf t n limit bytes ≡ j) × (payloadOf t n limit bytes ≡ payload)
 Holds (capsules t id payload out place r after) = writeCapsule t (record { 0 = id }) payload out place ≡ writing r after
 Holds (frames t id ours peers path payload out place r after) = writeFrame t (record { 0 = id }) ours peers path payload out place ≡ writing r after
-Holds (judgesRows qs ms n limit bytes j payload) = (judgedRows qs ms n limit bytes ≡ j) × (payloadRows qs ms n limit bytes ≡ payload)
-Holds (capsulesRows qs ms id payload out place r after) = writeCapsuleRows qs ms (record { 0 = id }) payload out place ≡ writing r after
-Holds (framesRows qs ms id ours peers path payload out place r after) = writeFrameRows qs ms (record { 0 = id }) ours peers path payload out place ≡ writing r after
 Holds (rules j n b) = (ruleOf j ≡ n) × (isDelivered j ≡ b)
 
 abbrev pub All : List Pin → Type 0
@@ -405,15 +398,19 @@ onAddresses =
 
 -- ---- tables, payloads, writers
 
-abbrev mark : ℕ → Bool → Bool → Bool → StreamRecord
-mark q receive send semantics = record { used = true; quarter = record { 0 = q }; receive = receive; send = send; semantics = semantics }
+abbrev recorded : ℕ → ℕ → StreamRecord
+recorded q flags = record { quarter = record { 0 = q }; flags = flags }
 
 abbrev one : StreamRecord → Table
 one r = r ∷ []
 
 -- a used record with both sides closed
 abbrev bad : Table
-bad = one (mark 1 false false true)
+bad = one (recorded 1 9)
+
+-- stream 4 twice
+abbrev twice : Table
+twice = recorded 1 15 ∷ recorded 1 15 ∷ []
 
 -- stream 0 behind a blank, and streams 4 and 20
 abbrev three′ : Table
@@ -426,34 +423,39 @@ onFrames =
     ∷ judges three′ (2 ^ 60 + 1) 65536 [] (judged.Refused (refusal 3)) []
     ∷ judges three′ (2 ^ 60 + 1) 65535 [] (judged.Refused (refusal 6)) []
     -- the stream limit counts quarters, at or above is beyond; it wins though the stream is in the table, and too large wins over it
-    ∷ judges three′ 0 9 (0 ∷ []) judged.BeyondLimit []
-    ∷ judges three′ 6 9 (5 ∷ 7 ∷ []) (judged.Delivered 3) (7 ∷ [])
-    ∷ judges three′ 5 9 (5 ∷ 7 ∷ []) judged.BeyondLimit []
-    ∷ judges three′ 5 9 (4 ∷ 7 ∷ []) judged.NoStream []
-    ∷ judges three′ 0 9 (0xd0 ∷ 0 ∷ 0 ∷ 0 ∷ 0 ∷ 0 ∷ 0 ∷ 0 ∷ []) judged.QuarterTooLarge []
+    ∷ judges three′ 0 9 (0 ∷ []) (judged.BeyondLimit (quarter 0)) []
+    ∷ judges three′ 6 9 (5 ∷ 7 ∷ []) (judged.Delivered (quarter 5) 3) (7 ∷ [])
+    ∷ judges three′ 5 9 (5 ∷ 7 ∷ []) (judged.BeyondLimit (quarter 5)) []
+    ∷ judges three′ 5 9 (4 ∷ 7 ∷ []) (judged.NoStream (quarter 4)) []
+    ∷ judges three′ 5 9 (7 ∷ []) (judged.BeyondLimit (quarter 7)) []
+    ∷ judges three′ 0 9 (0xd0 ∷ 0 ∷ 0 ∷ 0 ∷ 0 ∷ 0 ∷ 0 ∷ 0 ∷ []) (judged.QuarterTooLarge (quarter (2 ^ 60))) []
     -- quarter 0 is stream 0's, behind a blank
-    ∷ judges three′ 9 9 (0 ∷ 7 ∷ []) (judged.Delivered 1) (7 ∷ [])
+    ∷ judges three′ 9 9 (0 ∷ 7 ∷ []) (judged.Delivered (quarter 0) 1) (7 ∷ [])
+    -- quarter 257 is not quarter 1
+    ∷ judges (one (recorded 1 15)) 600 9 (0x41 ∷ 1 ∷ []) (judged.NoStream (quarter 257)) []
     -- closed, abort, too long: in this order
-    ∷ judges (one (mark 1 false true false)) 9 0 (1 ∷ 7 ∷ []) judged.ReceiveClosed []
-    ∷ judges (one (mark 1 true true false)) 9 0 (1 ∷ 7 ∷ []) judged.NoSemantics []
-    ∷ judges (one (mark 1 true true true)) 9 0 (1 ∷ 7 ∷ []) judged.TooLong []
+    ∷ judges (one (recorded 1 5)) 9 0 (1 ∷ 7 ∷ []) (judged.ReceiveClosed (quarter 1) 0) []
+    ∷ judges (one (recorded 1 7)) 9 0 (1 ∷ 7 ∷ []) (judged.NoSemantics (quarter 1) 0) []
+    ∷ judges (one (recorded 1 15)) 9 0 (1 ∷ 7 ∷ []) (judged.TooLong (quarter 1) 0) []
     -- the rest is what follows the varint as it is encoded
-    ∷ judges (one (mark 1 true true true)) 9 3 (0x40 ∷ 1 ∷ 7 ∷ 8 ∷ 9 ∷ []) (judged.Delivered 0) (7 ∷ 8 ∷ 9 ∷ [])
-    ∷ judges (one (mark 1 true true true)) 9 2 (0x40 ∷ 1 ∷ 7 ∷ 8 ∷ 9 ∷ []) judged.TooLong []
+    ∷ judges (one (recorded 1 15)) 9 3 (0x40 ∷ 1 ∷ 7 ∷ 8 ∷ 9 ∷ []) (judged.Delivered (quarter 1) 0) (7 ∷ 8 ∷ 9 ∷ [])
+    ∷ judges (one (recorded 1 15)) 9 2 (0x40 ∷ 1 ∷ 7 ∷ 8 ∷ 9 ∷ []) (judged.TooLong (quarter 1) 0) []
     -- the capsule writer: 15, 7, 10, 12, 13, 5
     ∷ capsules bad 5 (7 ∷ []) [] 0 (Refused (refusal 15)) []
     ∷ capsules three′ 5 (7 ∷ []) [] 0 (Refused (refusal 7)) []
     ∷ capsules three′ 8 (7 ∷ []) [] 0 (Refused (refusal 10)) []
-    ∷ capsules (one (mark 1 true false false)) 4 (7 ∷ []) [] 0 (Refused (refusal 12)) []
-    ∷ capsules (one (mark 1 true true false)) 4 (7 ∷ []) [] 0 (Refused (refusal 13)) []
+    ∷ capsules (one (recorded 1 3)) 4 (7 ∷ []) [] 0 (Refused (refusal 12)) []
+    ∷ capsules (one (recorded 1 7)) 4 (7 ∷ []) [] 0 (Refused (refusal 13)) []
     ∷ capsules three′ 4 (7 ∷ []) (nines 3) 1 (Refused (refusal 5)) (nines 3)
     ∷ capsules three′ 4 (7 ∷ []) (nines 5) 1 (Wrote 3) (9 ∷ 0 ∷ 1 ∷ 7 ∷ 9 ∷ [])
-    -- the frame writer: settings are any numbers; the path size counts quarter and payload, and equal passes
+    -- the frame writer: 15, 7, 10, 11, 12, 13, 14, 5; settings are any numbers; the path size counts quarter and payload, and equal passes
+    ∷ frames bad 5 2 2 0 (7 ∷ []) [] 1 (Refused (refusal 15)) []
+    ∷ frames three′ 5 2 2 0 (7 ∷ []) [] 1 (Refused (refusal 7)) []
     ∷ frames three′ 8 2 1 0 (7 ∷ []) [] 0 (Refused (refusal 10)) []
-    ∷ frames (one (mark 1 true false false)) 4 2 1 0 (7 ∷ []) [] 0 (Refused (refusal 11)) []
+    ∷ frames (one (recorded 1 3)) 4 2 1 0 (7 ∷ []) [] 0 (Refused (refusal 11)) []
     ∷ frames three′ 4 1 2 0 (7 ∷ []) [] 0 (Refused (refusal 11)) []
-    ∷ frames (one (mark 1 true false false)) 4 1 1 0 (7 ∷ []) [] 0 (Refused (refusal 12)) []
-    ∷ frames (one (mark 1 true true false)) 4 1 1 0 (7 ∷ []) [] 0 (Refused (refusal 13)) []
+    ∷ frames (one (recorded 1 3)) 4 1 1 0 (7 ∷ []) [] 0 (Refused (refusal 12)) []
+    ∷ frames (one (recorded 1 7)) 4 1 1 0 (7 ∷ []) [] 0 (Refused (refusal 13)) []
     ∷ frames three′ 4 1 1 1 (7 ∷ []) [] 0 (Refused (refusal 14)) []
     ∷ frames three′ 4 1 1 0 [] [] 0 (Refused (refusal 14)) []
     ∷ frames three′ 4 1 1 2 (7 ∷ []) (nines 2) 1 (Refused (refusal 5)) (nines 2)
@@ -469,32 +471,34 @@ onFrames =
     -- the longest payload to send; 12 stands before 6, 6 before 14, and both before 5
     ∷ capsules three′ 4 (nines 65535) [] 0 (Refused (refusal 5)) []
     ∷ capsules three′ 4 (nines 65536) [] 0 (Refused (refusal 6)) []
-    ∷ capsules (one (mark 1 true false false)) 4 (nines 65536) [] 0 (Refused (refusal 12)) []
+    ∷ capsules (one (recorded 1 3)) 4 (nines 65536) [] 0 (Refused (refusal 12)) []
     ∷ frames three′ 4 1 1 0 (nines 65535) [] 0 (Refused (refusal 14)) []
     ∷ frames three′ 4 1 1 0 (nines 65536) [] 0 (Refused (refusal 6)) []
     -- nothing is delivered by a refusal, nor behind a quarter that is too large
     ∷ judges bad 9 9 (1 ∷ 7 ∷ []) (judged.Refused (refusal 15)) []
-    ∷ judges three′ 9 9 (0xd0 ∷ 0 ∷ 0 ∷ 0 ∷ 0 ∷ 0 ∷ 0 ∷ 0 ∷ 7 ∷ []) judged.QuarterTooLarge []
-    -- rows of unequal length are no table; marks 1, 2, 4, 8
-    ∷ judgesRows (1 ∷ 2 ∷ []) (15 ∷ []) 9 9 (1 ∷ 7 ∷ []) (judged.Refused (refusal 15)) []
-    ∷ judgesRows (1 ∷ []) (15 ∷ []) 9 9 (1 ∷ 7 ∷ []) (judged.Delivered 0) (7 ∷ [])
-    ∷ judgesRows (1 ∷ []) (13 ∷ []) 9 9 (1 ∷ 7 ∷ []) judged.ReceiveClosed []
-    ∷ judgesRows (1 ∷ []) (7 ∷ []) 9 9 (1 ∷ 7 ∷ []) judged.NoSemantics []
-    ∷ capsulesRows (1 ∷ 2 ∷ []) (15 ∷ []) 4 (7 ∷ []) (nines 3) 0 (Refused (refusal 15)) (nines 3)
-    ∷ capsulesRows (1 ∷ []) (15 ∷ []) 4 (7 ∷ []) (nines 3) 0 (Wrote 3) (0 ∷ 1 ∷ 7 ∷ [])
-    ∷ framesRows (1 ∷ 2 ∷ []) (15 ∷ []) 4 1 1 9 (7 ∷ []) (nines 2) 0 (Refused (refusal 15)) (nines 2)
-    ∷ framesRows (1 ∷ []) (15 ∷ []) 4 1 2 9 (7 ∷ []) (nines 2) 0 (Refused (refusal 11)) (nines 2)
-    ∷ framesRows (1 ∷ []) (15 ∷ []) 4 2 1 9 (7 ∷ []) (nines 2) 0 (Refused (refusal 11)) (nines 2)
-    ∷ framesRows (1 ∷ []) (15 ∷ []) 4 1 1 9 (7 ∷ []) (nines 2) 0 (Wrote 2) (1 ∷ 7 ∷ [])
+    ∷ judges three′ 9 9 (0xd0 ∷ 0 ∷ 0 ∷ 0 ∷ 0 ∷ 0 ∷ 0 ∷ 0 ∷ 7 ∷ []) (judged.QuarterTooLarge (quarter (2 ^ 60))) []
+    -- 15 where a quarter stands twice
+    ∷ judges twice 9 9 (1 ∷ []) (judged.Refused (refusal 15)) []
+    ∷ capsules twice 4 (7 ∷ []) (nines 3) 0 (Refused (refusal 15)) (nines 3)
+    ∷ frames twice 4 1 1 9 (7 ∷ []) (nines 3) 0 (Refused (refusal 15)) (nines 3)
+    -- flags 1, 2, 4, 8; higher bits mean nothing
+    ∷ judges (one (recorded 1 15)) 9 9 (1 ∷ 7 ∷ []) (judged.Delivered (quarter 1) 0) (7 ∷ [])
+    ∷ judges (one (recorded 1 (2 ^ 63 + 15))) 9 9 (1 ∷ 7 ∷ []) (judged.Delivered (quarter 1) 0) (7 ∷ [])
+    ∷ judges (one (recorded 1 13)) 9 9 (1 ∷ 7 ∷ []) (judged.ReceiveClosed (quarter 1) 0) []
+    ∷ judges (one (recorded 1 7)) 9 9 (1 ∷ 7 ∷ []) (judged.NoSemantics (quarter 1) 0) []
+    ∷ capsules (one (recorded 1 15)) 4 (7 ∷ []) (nines 3) 0 (Wrote 3) (0 ∷ 1 ∷ 7 ∷ [])
+    ∷ frames (one (recorded 1 15)) 4 1 2 9 (7 ∷ []) (nines 2) 0 (Refused (refusal 11)) (nines 2)
+    ∷ frames (one (recorded 1 15)) 4 2 1 9 (7 ∷ []) (nines 2) 0 (Refused (refusal 11)) (nines 2)
+    ∷ frames (one (recorded 1 15)) 4 1 1 9 (7 ∷ []) (nines 2) 0 (Wrote 2) (1 ∷ 7 ∷ [])
     ∷ rules (judged.Refused (refusal 15)) none false
     ∷ rules judged.ShortFrame (some 1) false
-    ∷ rules judged.QuarterTooLarge (some 2) false
-    ∷ rules judged.BeyondLimit (some 3) false
-    ∷ rules judged.NoStream (some 4) false
-    ∷ rules judged.ReceiveClosed (some 5) false
-    ∷ rules judged.NoSemantics (some 6) false
-    ∷ rules judged.TooLong (some 7) false
-    ∷ rules (judged.Delivered 0) (some 8) true
+    ∷ rules (judged.QuarterTooLarge (quarter 5)) (some 2) false
+    ∷ rules (judged.BeyondLimit (quarter 5)) (some 3) false
+    ∷ rules (judged.NoStream (quarter 5)) (some 4) false
+    ∷ rules (judged.ReceiveClosed (quarter 5) 3) (some 5) false
+    ∷ rules (judged.NoSemantics (quarter 5) 3) (some 6) false
+    ∷ rules (judged.TooLong (quarter 5) 3) (some 7) false
+    ∷ rules (judged.Delivered (quarter 5) 3) (some 8) true
     ∷ []
 
 -- the finished marks then differ, so that demand 3 needs its premise on the second buffer

@@ -1,5 +1,5 @@
 -- The starred bench cases of document 01, in a single table. One statement carries them: `AllStarred`.
-use Prim.Native.Nat.{ℕ, _^_}
+use Prim.Native.Nat.{ℕ, _-_, _^_}
 use mathlib.Core.Path.{_≡_}
 use mathlib.Core.Bool.{Bool, true, false}
 use mathlib.Core.List.{List, [], _∷_, _++_, map}
@@ -14,12 +14,11 @@ use Rattle.capsule.specs.declared.reader.CloseAnswer.the-variants.{Clean, Trunc
 use Rattle.capsule.specs.Book.{partsFor, forwarded, reported, endOf}
 use Rattle.capsule.specs.Reader.{opening}
 use Rattle.capsule_laws.specs.Claims.{ifDelivered, delivered}
-use Rattle.wire.specs.declared.units.Quarter.{Quarter}
 use Rattle.streams.specs.Records.{blank, opened}
 use Rattle.streams.specs.Tables.{Table}
 use Rattle.datagram.specs.declared.judge.Judged.{Judged}
 use Rattle.datagram.specs.declared.judge.Judged.the-variants as judged
-use Rattle.datagram.specs.Judging.{judgedOf, payloadOf}
+use Rattle.datagram.specs.Judging.{quarter, judgedOf, payloadOf}
 use Rattle.datagram.specs.Sending.{capsuleBytes}
 
 -- what a stream comes to: its reports and delivered payloads in order, the bytes written, and the answer to a clean close
@@ -97,10 +96,10 @@ starred =
     ∷ stream Endpoint 1200 false draftOne (outcome (Skipped 16725925 1 ∷ []) [] [] Clean)
     ∷ frame four (2 ^ 60) 1200 [] judged.ShortFrame []
     ∷ frame four (2 ^ 60) 1200 (0x40 ∷ []) judged.ShortFrame []
-    ∷ frame four (2 ^ 60) 1200 (0x01 ∷ []) (judged.Delivered 0) []
-    ∷ frame four (2 ^ 60) 1200 (0xd0 ∷ 0 ∷ 0 ∷ 0 ∷ 0 ∷ 0 ∷ 0 ∷ 0 ∷ []) judged.QuarterTooLarge []
-    ∷ frame [] (2 ^ 60) 1200 (0xcf ∷ 0xff ∷ 0xff ∷ 0xff ∷ 0xff ∷ 0xff ∷ 0xff ∷ 0xff ∷ []) judged.NoStream []
-    ∷ frame (blank ∷ blank ∷ []) (2 ^ 60) 1200 (0xcf ∷ 0xff ∷ 0xff ∷ 0xff ∷ 0xff ∷ 0xff ∷ 0xff ∷ 0xff ∷ []) judged.NoStream []
+    ∷ frame four (2 ^ 60) 1200 (0x01 ∷ []) (judged.Delivered (quarter 1) 0) []
+    ∷ frame four (2 ^ 60) 1200 (0xd0 ∷ 0 ∷ 0 ∷ 0 ∷ 0 ∷ 0 ∷ 0 ∷ 0 ∷ []) (judged.QuarterTooLarge (quarter (2 ^ 60))) []
+    ∷ frame [] (2 ^ 60) 1200 (0xcf ∷ 0xff ∷ 0xff ∷ 0xff ∷ 0xff ∷ 0xff ∷ 0xff ∷ 0xff ∷ []) (judged.NoStream (quarter (2 ^ 60 - 1))) []
+    ∷ frame (blank ∷ blank ∷ []) (2 ^ 60) 1200 (0xcf ∷ 0xff ∷ 0xff ∷ 0xff ∷ 0xff ∷ 0xff ∷ 0xff ∷ 0xff ∷ []) (judged.NoStream (quarter (2 ^ 60 - 1))) []
     ∷ header 63 (0x00 ∷ 0x3f ∷ [])
     ∷ header 64 (0x00 ∷ 0x40 ∷ 0x40 ∷ [])
     ∷ header 16383 (0x00 ∷ 0x7f ∷ 0xff ∷ [])

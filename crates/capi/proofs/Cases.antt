@@ -3,35 +3,55 @@ use mathlib.Core.Path.{refl}
 use Rattle.wire.specs.Bytes.{numFrom, num, bytesOf}
 use Rattle.wire.specs.Varint.{largest, sizeOf, valueOf, readVarint}
 use Rattle.wire.specs.Partial.{partialOf, heldBytes, starts, isPartial, takenOf, takeVarint}
-use Rattle.wire.specs.Units.{isRequest, largestQuarter, quarterOf}
+use Rattle.wire.specs.Units.{isRequest, largestQuarter, quarterOf, streamOf}
 use Rattle.addresses.specs.Addresses.{isAddressType, widthOf, ahead, onwards, entriesBy, entries, allOf, areGood, addressAt, identified, entryAt, clearBeyond, goodEntry, goodRequests, rangeAt, goodValue, longestAddressValue, wellFormed}
 use Rattle.addresses.specs.Handing.{answerFor, answerAt, padded, addressOf, blankAddress, addressAnswer, nextAddress, rangeOf, blankRange, rangeAnswer, nextRange}
 use Rattle.capsule.specs.Kinds.{optedBy, opted, kindOf, extentBy, extentOf, reportBy, reportOf, judged, finishes, finishesIn, forwardsBy, forwards, gathersBy, gathers, keepsBy, keeps}
 use Rattle.capsule.specs.Calls.{outputVerdict, addressesVerdict, lentVerdict}
 use Rattle.capsule.specs.Book.{onlyIf}
 use Rattle.capsule.specs.Reader.{lengthOf, judgedIn, isOpening, openOf, isMakeablePhase, isMakeable, verdictOf, planValue, planHead, planLength, planType, planOf, heldOf, wrote, stored, fedBy, takeOf, feedBy, feedOf, endAt, closeOf}
-use Rattle.streams.specs.Records.{bothClosed, isBlank, isBadRecord, holds, withClosed, closedSide}
-use Rattle.streams.specs.Tables.{anyBad, standsIn, standsTwice, isBad, next, find, lowestFree, openAt, openQuarter, openingOf, closeAt, closeQuarter, closingOf}
-use Rattle.streams.specs.Rows.{recordOf, markOf, tableOf, openingRows, closingRows}
-use Rattle.datagram.specs.Judging.{ruleOf}
+use Rattle.streams.specs.Records.{flag, bothClosed, isBlank, isBadRecord, holds, without, withClosed, closedSide}
+use Rattle.streams.specs.Tables.{anyBad, standsIn, standsTwice, isBad, next, find, entryAt as streamAt, lowestFree, openAt, openEntry, openingOf, closeEntry, closingOf, tableOpened, tableClosed}
+use Rattle.datagram.specs.Judging.{ruleOf, quarterIn, placeIn}
+use Rattle.look.specs.Looking.{bufferOf, storedIn, placeOf, sightOf, lookOf}
 use Rattle.listing.specs.Claims.{asClosed}
 use Rattle.http.specs.Errors.{number}
 use Rattle.http.specs.Ties.{closeError, reportError, judgedError}
 use Rattle.capi.specs.Numbers.{flagOf, roleOf, sideOf, statusOf, bitOf, errorNumber, endNumber}
 use Rattle.capi.specs.Varint.{varintAnswer, writtenAnswer}
-use Rattle.capi.specs.Words.{roleNumber, settingsNumber, draftIn, addressesIn, phaseWords, wordsOf, phaseIn, withPhase, readerIn}
+use Rattle.capi.specs.Words.{readerMark, roleWord, roleIn, settingsNumber, draftIn, addressesIn, phaseWords, wordsOf, phaseIn, withPhase, readerIn}
 use Rattle.capi.specs.Reader as reader
 use Rattle.capi.specs.Reader.{openedAt, openWords, reportNumber, typeOf, fedReport, fedTook, fedAnswer, wordsFed, feedLoaded, feedWords, closeRefusal, closedAnswer, wordsClosed, closedBy, closeLoaded, closeWords}
+use Rattle.capi.specs.Sight.{bufferNumber, sightAnswer, lookedAnswer, lookWords}
+use Rattle.capi.specs.Identifiers.{quarterAnswer, streamAnswer}
 use Rattle.capi.specs.OneShot.{endingNumber, listingAnswer}
 use Rattle.capi.specs.Table as table
-use Rattle.capi.specs.Table.{rowsStored, openedAnswer, rowsWith, rowsOpened, openRows, rowsClosed, closeRows}
-use Rattle.capi.specs.Frames.{ruleNumber, deliveredAnswer, judgedAnswer}
+use Rattle.capi.specs.Table.{openedAnswer, openTable, closeTable}
+use Rattle.capi.specs.Frames.{orZero, deliveredAnswer, judgedAnswer}
 use Rattle.capi.specs.AddressCapsules.{foundNumber, addressFound, routeFound}
 use Rattle.capi.specs.Messages.{messageOf, actionAnswer, translationAnswer}
-use Rattle.capi.specs.Cases.{Cases}
+use Rattle.wire.specs.Varint as varint
+use Rattle.wire.specs.Writing.{refuses, writeAt}
+use Rattle.streams.specs.Tables.{standEntry, standingOf}
+use Rattle.datagram.specs.Sending.{capsuleHeader, capsuleBytes, agreed, sendingRecord, sendingEntry, sendingOf, putCapsule, putCapsuleHeader, putFrameHeader, frameHeaderWritten, writeFrameHeader}
+use Rattle.capi.specs.Varint.{wroteBy}
+use Rattle.capi.specs.Cases.{SendingCases, Cases}
+
+sending-cases : SendingCases
+unfolding table.foundAnswer standEntry standingOf isRequest largestQuarter quarterOf flag bothClosed isBlank isBadRecord holds anyBad standsIn standsTwice isBad next find streamAt agreed sendingRecord sendingEntry sendingOf bytesOf varint.encodeAs varint.leastWidth varint.encode capsuleHeader capsuleBytes putCapsule putCapsuleHeader putFrameHeader frameHeaderWritten writeFrameHeader refuses writeAt writtenAnswer wroteBy
+sending-cases =
+    record {
+      standings = refl;
+      finds = refl;
+      finds-bad = refl;
+      frame-headers = refl;
+      frame-header-closed = refl;
+      datagrams = refl;
+      datagram-headers = refl;
+    }
 
 pub cases : Cases
-unfolding flagOf roleOf sideOf statusOf bitOf errorNumber number endNumber messageOf varintAnswer writtenAnswer reportNumber typeOf lengthOf reportError fedReport fedTook fedAnswer closeRefusal closedAnswer closeError roleNumber settingsNumber draftIn addressesIn phaseWords wordsOf phaseIn withPhase readerIn openedAt openWords wordsFed reader.fedBy feedLoaded feedWords wordsClosed closedBy closeLoaded closeWords asClosed endingNumber listingAnswer rowsStored openedAnswer rowsWith rowsOpened openRows table.closedAnswer rowsClosed closeRows ruleOf ruleNumber judgedError deliveredAnswer judgedAnswer actionAnswer translationAnswer readVarint sizeOf valueOf num numFrom largest bytesOf partialOf heldBytes starts isPartial takenOf takeVarint isAddressType widthOf ahead onwards entriesBy entries allOf areGood addressAt identified entryAt clearBeyond goodEntry goodRequests rangeAt goodValue longestAddressValue wellFormed answerFor answerAt padded addressOf blankAddress addressAnswer nextAddress rangeOf blankRange rangeAnswer nextRange foundNumber addressFound routeFound optedBy opted kindOf extentBy extentOf judged finishes finishesIn keepsBy keeps judgedIn reportBy reportOf forwardsBy forwards gathersBy gathers onlyIf outputVerdict addressesVerdict lentVerdict isOpening openOf isMakeablePhase isMakeable verdictOf planValue planHead planLength planType planOf heldOf wrote stored fedBy takeOf feedBy feedOf endAt closeOf isRequest largestQuarter quarterOf bothClosed isBlank isBadRecord holds withClosed closedSide anyBad standsIn standsTwice isBad next find lowestFree openAt openQuarter openingOf closeAt closeQuarter closingOf recordOf markOf tableOf openingRows closingRows
+unfolding bufferOf storedIn placeOf sightOf lookOf bufferNumber sightAnswer lookedAnswer lookWords streamOf quarterAnswer streamAnswer flagOf roleOf sideOf statusOf bitOf errorNumber number endNumber messageOf varintAnswer writtenAnswer reportNumber typeOf lengthOf reportError fedReport fedTook fedAnswer closeRefusal closedAnswer closeError readerMark roleWord roleIn settingsNumber draftIn addressesIn phaseWords wordsOf phaseIn withPhase readerIn openedAt openWords wordsFed reader.fedBy feedLoaded feedWords wordsClosed closedBy closeLoaded closeWords asClosed endingNumber listingAnswer openedAnswer openTable table.closedAnswer closeTable orZero ruleOf quarterIn placeIn judgedError deliveredAnswer judgedAnswer actionAnswer translationAnswer readVarint sizeOf valueOf num numFrom largest bytesOf partialOf heldBytes starts isPartial takenOf takeVarint isAddressType widthOf ahead onwards entriesBy entries allOf areGood addressAt identified entryAt clearBeyond goodEntry goodRequests rangeAt goodValue longestAddressValue wellFormed answerFor answerAt padded addressOf blankAddress addressAnswer nextAddress rangeOf blankRange rangeAnswer nextRange foundNumber addressFound routeFound optedBy opted kindOf extentBy extentOf judged finishes finishesIn keepsBy keeps judgedIn reportBy reportOf forwardsBy forwards gathersBy gathers onlyIf outputVerdict addressesVerdict lentVerdict isOpening openOf isMakeablePhase isMakeable verdictOf planValue planHead planLength planType planOf heldOf wrote stored fedBy takeOf feedBy feedOf endAt closeOf isRequest largestQuarter quarterOf flag bothClosed isBlank isBadRecord holds without withClosed closedSide anyBad standsIn standsTwice isBad next find streamAt lowestFree openAt openEntry openingOf closeEntry closingOf tableOpened tableClosed
 cases =
     record {
       flags = refl;
@@ -44,6 +64,7 @@ cases =
       writings = refl;
       feedings = refl;
       closings = refl;
+      first-words = refl;
       stored-forms = refl;
       other-words = refl;
       opens = refl;
@@ -60,10 +81,14 @@ cases =
       closes-clean = refl;
       closes-again = refl;
       closes-not = refl;
+      looks = refl;
+      looks-words = refl;
       founds = refl;
       addresses = refl;
       routes = refl;
       listings = refl;
+      quarters = refl;
+      stream-ids = refl;
       opens-stream = refl;
       opens-plain = refl;
       opens-stream-not = refl;
@@ -72,5 +97,6 @@ cases =
       closes-receive = refl;
       closes-side-not = refl;
       judgements = refl;
+      sendings = sending-cases;
       translations = refl;
     }

@@ -5,7 +5,7 @@ use mathlib.Core.Path.{_≡_, refl, sym, ap, subst, _∙_}
 use mathlib.Core.Bool.{Bool, true, false, cond}
 use mathlib.Core.List.{List, [], _∷_}
 use native.Mathlib.Omega.{arith}
-use Rattle.refusals.specs.Numbers.{finished}
+use Rattle.refusals.specs.Numbers.{finished, unmakeableState}
 use Rattle.wire.specs.Bytes.{Bytes}
 use Rattle.wire.proofs.Parts.{parted, starts-le}
 use Rattle.wire.specs.Partial.{isPartial}
@@ -34,10 +34,15 @@ use Rattle.http.specs.Errors.{number}
 use Rattle.http.specs.Ties.{reportError}
 use Rattle.capi.specs.declared.words.Loaded.{Loaded}
 use Rattle.capi.specs.declared.words.Loaded.the-variants as loaded
-use Rattle.capi.specs.Numbers.{roleOf, flagOf, errorNumber}
-use Rattle.capi.specs.Words.{wordsOf, readerIn}
+use Rattle.capi.specs.Numbers.{roleOf, flagOf, bitOf, errorNumber}
+use Rattle.capi.specs.Words.{readerMark, wordsOf, readerIn}
 use Rattle.capi.specs.Reader.{openedAt, openWords, FeedDone, reportNumber, fedReport, fedTook, fedAnswer, wordsFed, fedBy, feedLoaded, feedWords, CloseDone, closedAnswer, wordsClosed, closeRefusal, closedBy, closeLoaded, closeWords}
-use Rattle.capi.specs.Claims.{HaveIsByte, NotZero, OpenedSo, RefusedReaderLeaves, MalformedError, OpenKept, FeedKept, CloseKept, ReaderKept}
+use Rattle.look.specs.declared.Looked.the-variants.{Refused}
+use Rattle.look.specs.Looking.{lookOf}
+use Rattle.look.specs.declared.Place.{Place}
+use Rattle.look.specs.declared.Place.the-variants as place
+use Rattle.capi.specs.Sight.{sightAnswer, lookedAnswer, lookWords}
+use Rattle.capi.specs.Claims.{HaveIsByte, LookKept, NotZero, OpenedSo, RefusedReaderLeaves, ZeroWordsRefused, MalformedError, OpenKept, FeedKept, CloseKept, ReaderKept}
 use Rattle.capi.proofs.StoredForm.{stored-read}
 use Rattle.capi.proofs.Nonzero.{numbered-refusals}
 
@@ -80,6 +85,12 @@ refused-reader-leaves ws = (
   λ p b n. loaded-leaves ws p b (readerIn ws) n,
   λ n. close-leaves ws (readerIn ws) n,
 )
+
+-- ---- words that are all 0
+
+pub zero-words-refused : ZeroWordsRefused
+unfolding readerIn readerMark feedWords feedLoaded closeWords closeLoaded lookWords
+zero-words-refused = record { no-reader = refl; feeds = λ p b. refl; closes = refl; looks = refl }
 
 -- ---- errors
 
@@ -174,3 +185,20 @@ module _ (r : Reader) (m : isMakeable r ≡ true) where
 
 pub reader-kept : ReaderKept
 reader-kept r m = (λ p b h. feed-kept r m p b h, close-kept r m)
+
+-- ---- a look
+
+told : (finished : Bool) (limit : ℕ) (p : Place) → let a = sightAnswer finished limit p in (a .refusal ≡ 0) × (a .finished ≡ bitOf finished) × (a .«datagram_limit» ≡ limit)
+unfolding sightAnswer
+told finished limit place.Between = (refl, refl, refl)
+told finished limit place.InType = (refl, refl, refl)
+told finished limit (place.InLength t) = (refl, refl, refl)
+told finished limit (place.InValue t n toCome gathered buffer) = (refl, refl, refl)
+
+pub look-kept : LookKept
+unfolding lookWords
+look-kept =
+    record {
+      looks = λ r h. ap (λ (l : Loaded). elim l [ loaded.Nothing ↦ lookedAnswer (Refused unmakeableState) | loaded.Is r ↦ lookedAnswer (lookOf r) ]) (stored-read r h);
+      tells = told;
+    }

@@ -2,10 +2,12 @@ pub mod StoredForm
 pub mod Keeping
 pub mod Throughout
 pub mod Entries
-pub mod RowCalls
 pub mod Payloads
 pub mod Nonzero
 pub mod ReaderCalls
+pub mod Crossing
+pub mod Exporting
+pub mod Sending
 pub mod TableCalls
 pub mod ShortWords
 pub mod Cases

@@ -1,20 +1,20 @@
--- No refusal has number 0 (specs/Claims.antt). Assumes nothing.
+-- No refusal has number 0 (specs/Claims.antt): each is one of the numbers that stand in the definitions. Assumes nothing.
 use Prim.{Unit, tt}
-use Prim.Native.Nat.{ℕ, _+_, _-_, _^_}
+use Prim.Native.Nat.{ℕ, suc, _+_, _-_, _^_}
 use mathlib.Core.Bool.{Bool, true, false, cond, _&&_}
 use mathlib.Core.Option.{Option, none, some}
 use mathlib.Core.List.{List}
 use native.Mathlib.Omega.{arith}
-use lib.ListN.{length, getD}
+use lib.ListN.{length}
 use lib.Dec.{leb, ltb, eqb}
-use Rattle.refusals.specs.Numbers.{refusal, unmakeableState, finished}
+use Rattle.refusals.specs.Numbers.{refusal, numberTooLarge, frameTooLong}
 use Rattle.wire.specs.declared.units.StreamId.{StreamId}
 use Rattle.wire.specs.declared.units.Quarter.{Quarter}
 use Rattle.wire.specs.declared.units.QuarterOf.{QuarterOf}
 use Rattle.wire.specs.declared.units.QuarterOf.the-variants.{NotRequestStream, Is}
 use Rattle.wire.specs.declared.varint.Varint.{Varint}
 use Rattle.wire.specs.declared.varint.Varint.the-variants.{Incomplete, Whole}
-use Rattle.wire.specs.Units.{largestQuarter, quarterOf}
+use Rattle.wire.specs.Units.{isRequest, largestQuarter, quarterOf}
 use Rattle.wire.specs.Varint.{largest, readVarint, encode}
 use Rattle.wire.specs.Writing.{Writing, refuses, writeAt, writeVarint}
 use Rattle.capsule.specs.declared.opening.Role.{Role}
@@ -24,41 +24,46 @@ use Rattle.capsule.specs.declared.reader.Phase.the-variants.{InType, InLength, 
 use Rattle.capsule.specs.declared.reader.Reader.{Reader}
 use Rattle.capsule.specs.declared.reader.Verdict.{Verdict}
 use Rattle.capsule.specs.declared.reader.Verdict.the-variants as verdict
-use Rattle.capsule.specs.declared.reader.CloseAnswer.the-variants as closedAs
+use Rattle.capsule.specs.Kinds.{opted}
+use Rattle.capsule.specs.Calls.{Lent, outputVerdict, addressesVerdict, lentVerdict}
+use Rattle.capsule.specs.declared.reader.Closed.{Closed}
+use Rattle.capsule.specs.Reader.{opening, isOpening, openOf, isMakeable, verdictOf, takeOf, feedBy, feedOf, fedBy, endAt, closeOf}
 use Rattle.addresses.specs.Addresses.{route, longestAddressValue, allOf, wellFormed}
 use Rattle.addresses.specs.Encoding.{entryBytes, rangeBytes, valueBytes}
 use Rattle.address_writer.specs.Rows.{entrySize, rangeSize, isWhole, entriesIn, rangesIn}
 use Rattle.address_writer.specs.Writer.{capsuleOf, writeValue, idFits, writeAddresses, writeRoutes}
-use Rattle.capsule.specs.Kinds.{opted}
-use Rattle.capsule.specs.Calls.{Lent, outputVerdict, addressesVerdict, lentVerdict}
-use Rattle.capsule.specs.Reader.{opening, isOpening, openOf, isMakeable, verdictOf, takeOf, feedBy, feedOf, fedBy, endAt, closing, closeOf}
-use Rattle.streams.specs.declared.record.Side.{Side}
-use Rattle.streams.specs.declared.record.StreamRecord.{StreamRecord}
+use Rattle.streams.specs.declared.table.Entry.{Entry}
+use Rattle.streams.specs.declared.table.Entry.the-variants.{Absent, Present}
 use Rattle.streams.specs.declared.table.Found.{Found}
 use Rattle.streams.specs.declared.table.Found.the-variants.{Nothing, At}
-use Rattle.streams.specs.declared.table.Opening.the-variants as openingAs
-use Rattle.streams.specs.declared.table.Closing.the-variants as closingAs
-use Rattle.streams.specs.Records.{blank}
-use Rattle.streams.specs.Tables.{Table, isBad, find, lowestFree, openAt, openQuarter, openingOf, closeAt, closeQuarter, closingOf}
-use Rattle.streams.specs.Rows.{tableOf, openingRows, closingRows}
+use Rattle.streams.specs.declared.record.Side.{Side}
+use Rattle.streams.specs.Records.{receiveOpen, sendOpen, hasSemantics}
+use Rattle.streams.specs.Tables.{Table, isBad, entryOf, lowestFree, openAt, openEntry, openingOf, closeEntry, closingOf, standEntry, standingOf}
 use Rattle.datagram.specs.declared.write.Sending.{Sending}
 use Rattle.datagram.specs.declared.write.Sending.the-variants as sending
-use Rattle.datagram.specs.Judging.{judgedRecord, judgedFound, judgedQuarter, judgedRead, judgedOf, judgedRows}
-use Rattle.datagram.specs.Sending.{frameBytes, capsuleBytes, agreed, sendingRecord, sendingQuarter, sendingOf, sendingRows, putCapsule, putFrame, capsuleWritten, frameWritten, writeCapsuleRows, writeFrameRows}
+use Rattle.datagram.specs.Judging.{judgedRecord, judgedEntry, judgedRead, judgedOf}
+use Rattle.datagram.specs.Sending.{capsuleHeader, capsuleBytes, frameBytes, agreed, sendingRecord, sendingEntry, sendingOf, putCapsule, putCapsuleHeader, putFrame, putFrameHeader, capsuleWritten, frameWritten, frameHeaderWritten, writeCapsule, writeFrame, writeFrameHeader}
+use Rattle.look.specs.Looking.{lookOf}
 use Rattle.listing.specs.Listing.{longestBuffer, listingOf}
 use Rattle.http.specs.Errors.{Error}
 use Rattle.http.specs.Translation.{Version, errors, versions, nth, answer, translated}
-use Rattle.capi.specs.Claims.{NotZero, OpenedSo, FedSo, ClosedSo, ListedSo, WrittenSo, OpeningSo, ClosingSo, JudgedSo, TranslatedSo, NumberedRefusals}
+use Rattle.capi.specs.Identifiers.{quarterAnswer}
+use Rattle.capi.specs.Claims.{NotZero, OpenedSo, FedSo, ClosedSo, LookedSo, ListedSo, WrittenSo, OpeningSo, StandingSo, ClosingSo, QuarterSo, JudgedSo, TranslatedSo, NumberedRefusals}
 
-pick {ℓ} : {A : Type 0} (P : A → Type ℓ) (t : Bool) (x y : A) → P x → P y → P (cond t x y)
-pick P true x y a b = a
-pick P false x y a b = b
+no : (n : ℕ) → NotZero (refusal (suc n))
+no n z = omega arith
+
+-- what holds of both answers of a test
+pick : {A : Type 0} (P : A → Type 0) (t : Bool) {x y : A} → P x → P y → P (cond t x y)
+pick P true a b = a
+pick P false a b = b
+
+-- and of the answer where a stream ID has no quarter, and of the one of each quarter
+request : {A : Type 0} (P : A → Type 0) (f : Quarter → A) (x : QuarterOf) {a : A} → P a → ((q : Quarter) → P (f q)) → P (elim x [ NotRequestStream ↦ a | Is q ↦ f q ])
+request P f NotRequestStream a b = a
+request P f (Is q) a b = b q
 
 -- ---- the reader
-
-open-so : (role : Role) (limit : ℕ) (draft addresses : Bool) → OpenedSo (openOf role limit draft addresses)
-unfolding openOf
-open-so role limit draft addresses = pick OpenedSo (isOpening (opening role limit draft addresses)) _ _ tt (λ z. omega arith)
 
 abbrev VerdictSo : Verdict → Type 0
 VerdictSo verdict.Accepted = Unit {0}
@@ -67,176 +72,158 @@ VerdictSo (verdict.Refused why) = NotZero why
 output-so : (role : Role) (piece room : ℕ) → VerdictSo (outputVerdict role piece room)
 unfolding outputVerdict
 output-so Endpoint piece room = tt
-output-so Intermediary piece room = pick VerdictSo (leb (piece + 8) room) _ _ tt (λ z. omega arith)
+output-so Intermediary piece room = pick VerdictSo (leb (piece + 8) room) tt (no 4)
 
 addresses-so : (o : Bool) (n : ℕ) (v : Verdict) → VerdictSo v → VerdictSo (addressesVerdict o n v)
 unfolding addressesVerdict
-addresses-so true n v s = pick VerdictSo (leb longestAddressValue n) _ _ s (λ z. omega arith)
+addresses-so true n v s = pick VerdictSo (leb longestAddressValue n) s (no 17)
 addresses-so false n v s = s
 
 verdict-so : (r : Reader) (piece gathering addresses output : ℕ) → VerdictSo (verdictOf r piece gathering addresses output)
 unfolding verdictOf lentVerdict
 verdict-so r piece gathering addresses output =
-    pick VerdictSo (isMakeable r) _ _ (pick VerdictSo (r .finished) _ _ (λ z. omega arith) (pick VerdictSo (leb (r .opening .limit) gathering) _ _ (addresses-so (opted (r .opening)) addresses _ (output-so (r .opening .role) piece output)) (λ z. omega arith))) (λ z. omega arith)
+    pick VerdictSo (isMakeable r) (pick VerdictSo (r .finished) (no 1) (pick VerdictSo (leb (r .opening .limit) gathering) (addresses-so (opted (r .opening)) addresses _ (output-so (r .opening .role) piece output)) (no 3))) (no 0)
 
-feed-so : (r : Reader) (p : List ℕ) (b : Lent) → FedSo (feedOf r p b .answer)
-unfolding feedOf
-feed-so r p b = go (verdictOf r (length p) (length (b .gathering)) (length (b .addresses)) (length (b .output))) (verdict-so r (length p) (length (b .gathering)) (length (b .addresses)) (length (b .output)))
-  where
-    go : (v : Verdict) → VerdictSo v → FedSo (feedBy r p b v .answer)
-    go (verdict.Refused why) n = unfold feedBy in n
-    go verdict.Accepted n = unfold feedBy takeOf fedBy in tt
+feed-so : (r : Reader) (p : List ℕ) (b : Lent) (v : Verdict) → VerdictSo v → FedSo (feedBy r p b v .answer)
+unfolding feedBy takeOf fedBy
+feed-so r p b (verdict.Refused why) n = n
+feed-so r p b verdict.Accepted n = tt
 
 end-so : (x : Phase) → ClosedSo (endAt x)
 unfolding endAt
-end-so (InType part) = pick ClosedSo (eqb (part .have) 0) _ _ tt tt
+end-so (InType part) = pick ClosedSo (eqb (part .have) 0) tt tt
 end-so (InLength t part) = tt
 end-so (InValue t n left) = tt
 
-close-so : (r : Reader) → ClosedSo (closeOf r .answer)
-unfolding closeOf
-close-so r = go (isMakeable r) (r .finished)
-  where
-    go : (m f : Bool) → ClosedSo (cond m (cond f (closing r (closedAs.Refused finished)) (closing (record { opening = r .opening; phase = r .phase; finished = true }) (endAt (r .phase)))) (closing r (closedAs.Refused unmakeableState)) .answer)
-    go true true = λ z. omega arith
-    go true false = end-so (r .phase)
-    go false f = λ z. omega arith
+abbrev CloseSo : Closed → Type 0
+CloseSo c = ClosedSo (c .answer)
 
-list-so : (s : List ℕ) → ListedSo (listingOf s)
-unfolding listingOf
-list-so s = pick ListedSo (leb (length s) longestBuffer) _ _ tt (λ z. omega arith)
+-- ---- the table and payloads
 
--- ---- the table
+open-so : (e : Entry) (f : Found) → OpeningSo (openEntry e f)
+unfolding openEntry openAt
+open-so (Present i r) f = no 8
+open-so Absent Nothing = no 7
+open-so Absent (At i) = tt
 
-open-at-so : (f : Found) → OpeningSo (openAt f)
-unfolding openAt
-open-at-so Nothing = λ z. omega arith
-open-at-so (At i) = tt
+close-so : (side : Side) (e : Entry) → ClosingSo (closeEntry side e)
+unfolding closeEntry
+close-so side Absent = no 9
+close-so side (Present i r) = tt
 
-opening-so : (qs ms : List ℕ) (id : StreamId) → OpeningSo (openingRows qs ms id)
-unfolding openingRows openingOf
-opening-so qs ms id = pick OpeningSo (eqb (length qs) (length ms)) _ _ (pick OpeningSo (isBad (tableOf qs ms)) _ _ (λ z. omega arith) (go (quarterOf id))) (λ z. omega arith)
-  where
-    found : (q : Quarter) (f : Found) → OpeningSo (elim f [ At i ↦ openingAs.Refused (refusal 9) | Nothing ↦ openAt (lowestFree (tableOf qs ms)) ])
-    found q (At i) = λ z. omega arith
-    found q Nothing = open-at-so (lowestFree (tableOf qs ms))
+stand-so : (e : Entry) → StandingSo (standEntry e)
+unfolding standEntry
+stand-so Absent = no 9
+stand-so (Present i r) = tt
 
-    go : (x : QuarterOf) → OpeningSo (elim x [ NotRequestStream ↦ openingAs.Refused (refusal 7) | Is q ↦ openQuarter (tableOf qs ms) q ])
-    go NotRequestStream = λ z. omega arith
-    go (Is q) = unfold openQuarter in found q (find (q .0) (tableOf qs ms))
+find-so : (t : Table) (id : StreamId) → StandingSo (standingOf t id)
+unfolding standingOf
+find-so t id = pick StandingSo (isBad t) (no 14) (request StandingSo (λ q. standEntry (entryOf (q .0) t)) (quarterOf id) (no 6) (λ q. stand-so (entryOf (q .0) t)))
 
-closing-so : (qs ms : List ℕ) (id : StreamId) (side : Side) → ClosingSo (closingRows qs ms id side)
-unfolding closingRows closingOf
-closing-so qs ms id side = pick ClosingSo (eqb (length qs) (length ms)) _ _ (pick ClosingSo (isBad (tableOf qs ms)) _ _ (λ z. omega arith) (go (quarterOf id))) (λ z. omega arith)
-  where
-    found : (f : Found) → ClosingSo (elim f [ At i ↦ closeAt (tableOf qs ms) side i | Nothing ↦ closingAs.Refused (refusal 10) ])
-    found (At i) = unfold closeAt in tt
-    found Nothing = λ z. omega arith
-
-    go : (x : QuarterOf) → ClosingSo (elim x [ NotRequestStream ↦ closingAs.Refused (refusal 7) | Is q ↦ closeQuarter (tableOf qs ms) side q ])
-    go NotRequestStream = λ z. omega arith
-    go (Is q) = unfold closeQuarter in found (find (q .0) (tableOf qs ms))
-
--- ---- payloads
-
-record-so : (r : StreamRecord) (place limit rest : ℕ) → JudgedSo (judgedRecord r place limit rest)
-unfolding judgedRecord
-record-so r place limit rest = pick JudgedSo (r .receive) _ _ (pick JudgedSo (r .semantics) _ _ (pick JudgedSo (leb rest limit) _ _ tt tt) tt) tt
+entry-so : (e : Entry) (q limit rest : ℕ) → JudgedSo (judgedEntry e q limit rest)
+unfolding judgedEntry judgedRecord
+entry-so Absent q limit rest = tt
+entry-so (Present place r) q limit rest = pick JudgedSo (receiveOpen r) (pick JudgedSo (hasSemantics r) (pick JudgedSo (leb rest limit) tt tt) tt) tt
 
 read-so : (t : Table) (streams limit n : ℕ) (v : Varint) → JudgedSo (judgedRead t streams limit n v)
-unfolding judgedRead judgedQuarter
+unfolding judgedRead
 read-so t streams limit n Incomplete = tt
-read-so t streams limit n (Whole q size) = pick JudgedSo (leb q largestQuarter) _ _ (pick JudgedSo (ltb q streams) _ _ (go (find q t)) tt) tt
-  where
-    go : (f : Found) → JudgedSo (judgedFound t f limit (n - size))
-    go Nothing = unfold judgedFound in tt
-    go (At i) = unfold judgedFound in record-so (getD t i blank) i limit (n - size)
+read-so t streams limit n (Whole q size) = pick JudgedSo (leb q largestQuarter) (pick JudgedSo (ltb q streams) (entry-so (entryOf q t) q limit (n - size)) tt) tt
 
-judge-so : (qs ms : List ℕ) (streams limit : ℕ) (frame : List ℕ) → JudgedSo (judgedRows qs ms streams limit frame)
-unfolding judgedRows judgedOf
-judge-so qs ms streams limit frame =
-    pick JudgedSo (eqb (length qs) (length ms)) _ _ (pick JudgedSo (isBad (tableOf qs ms)) _ _ (λ z. omega arith)
-    (pick JudgedSo (leb limit 65535) _ _ (pick JudgedSo (leb streams (2 ^ 60)) _ _ (read-so (tableOf qs ms) streams limit (length frame) (readVarint frame)) (λ z. omega arith)) (λ z. omega arith))) (λ z. omega arith)
+quarter-so : (id : StreamId) → QuarterSo (quarterOf id)
+unfolding quarterOf quarterAnswer
+quarter-so id = pick QuarterSo (isRequest (id .0)) tt (no 6)
 
 -- ---- writers
 
 abbrev WritingSo : Writing → Type 0
 WritingSo w = WrittenSo (w .answer)
 
-write-at-so : (bytes out : List ℕ) (place : ℕ) → WritingSo (writeAt bytes out place)
+write-so : (bytes out : List ℕ) (place : ℕ) → WritingSo (writeAt bytes out place)
 unfolding writeAt refuses
-write-at-so bytes out place = pick WritingSo (leb (place + length bytes) (length out)) _ _ tt (λ z. omega arith)
+write-so bytes out place = pick WritingSo (leb (place + length bytes) (length out)) tt (no 4)
 
-varint-so : (n : ℕ) (out : List ℕ) (place : ℕ) → WritingSo (writeVarint n out place)
-unfolding writeVarint refuses
-varint-so n out place = pick WritingSo (leb n largest) _ _ (write-at-so (encode n) out place) (λ z. omega arith)
+value-so : (whole : Bool) (t : ℕ) (v out : List ℕ) (place : ℕ) → WritingSo (writeValue whole t v out place)
+unfolding writeValue refuses
+value-so whole t v out place = pick WritingSo (whole && wellFormed t v) (write-so (capsuleOf t v) out place) (no 25)
 
 abbrev SendingSo : Sending → Type 0
 SendingSo (sending.Refused why) = NotZero why
 SendingSo (sending.To q) = Unit {0}
 
-send-record-so : (r : StreamRecord) (q : Quarter) (settings : Bool) → SendingSo (sendingRecord r q settings)
-unfolding sendingRecord
-send-record-so r q settings = pick SendingSo settings _ _ (pick SendingSo (r .send) _ _ (pick SendingSo (r .semantics) _ _ tt (λ z. omega arith)) (λ z. omega arith)) (λ z. omega arith)
+sent-so : (e : Entry) (q : Quarter) (settings : Bool) → SendingSo (sendingEntry e q settings)
+unfolding sendingEntry sendingRecord
+sent-so Absent q settings = no 9
+sent-so (Present i r) q settings = pick SendingSo settings (pick SendingSo (sendOpen r) (pick SendingSo (hasSemantics r) tt (no 12)) (no 11)) (no 10)
 
-send-so : (qs ms : List ℕ) (id : StreamId) (settings : Bool) → SendingSo (sendingRows qs ms id settings)
-unfolding sendingRows sendingOf
-send-so qs ms id settings = pick SendingSo (eqb (length qs) (length ms)) _ _ (pick SendingSo (isBad (tableOf qs ms)) _ _ (λ z. omega arith) (go (quarterOf id))) (λ z. omega arith)
-  where
-    found : (q : Quarter) (f : Found) → SendingSo (elim f [ Nothing ↦ sending.Refused (refusal 10) | At i ↦ sendingRecord (getD (tableOf qs ms) i blank) q settings ])
-    found q Nothing = λ z. omega arith
-    found q (At i) = send-record-so (getD (tableOf qs ms) i blank) q settings
+send-so : (t : Table) (id : StreamId) (settings : Bool) → SendingSo (sendingOf t id settings)
+unfolding sendingOf
+send-so t id settings = pick SendingSo (isBad t) (no 14) (request SendingSo (λ q. sendingEntry (entryOf (q .0) t) q settings) (quarterOf id) (no 6) (λ q. sent-so (entryOf (q .0) t) q settings))
 
-    go : (x : QuarterOf) → SendingSo (elim x [ NotRequestStream ↦ sending.Refused (refusal 7) | Is q ↦ sendingQuarter (tableOf qs ms) q settings ])
-    go NotRequestStream = λ z. omega arith
-    go (Is q) = unfold sendingQuarter in found q (find (q .0) (tableOf qs ms))
+-- the writers of capsules and frames, whole or header: n is the payload's length
+short-so : (n : ℕ) (w : Writing) (out : List ℕ) → WritingSo w → WritingSo (cond (leb n 65535) w (refuses numberTooLarge out))
+unfolding refuses
+short-so n w out s = pick WritingSo (leb n 65535) s (no 5)
+
+fit-so : (n size path : ℕ) (bytes out : List ℕ) (place : ℕ) → WritingSo (cond (leb n 65535) (cond (leb size path) (writeAt bytes out place) (refuses frameTooLong out)) (refuses numberTooLarge out))
+unfolding refuses
+fit-so n size path bytes out place = short-so n _ out (pick WritingSo (leb size path) (write-so bytes out place) (no 13))
+
+datagram-so : (payload out : List ℕ) (place : ℕ) → WritingSo (putCapsule payload out place)
+unfolding putCapsule
+datagram-so payload out place = short-so (length payload) _ out (write-so (capsuleBytes payload) out place)
+
+datagram-header-so : (n : ℕ) (out : List ℕ) (place : ℕ) → WritingSo (putCapsuleHeader n out place)
+unfolding putCapsuleHeader
+datagram-header-so n out place = short-so n _ out (write-so (capsuleHeader n) out place)
 
 capsule-so : (s : Sending) → SendingSo s → (payload out : List ℕ) (place : ℕ) → WritingSo (capsuleWritten s payload out place)
-unfolding capsuleWritten putCapsule refuses
+unfolding capsuleWritten refuses
 capsule-so (sending.Refused why) n payload out place = n
-capsule-so (sending.To q) n payload out place = pick WritingSo (leb (length payload) 65535) _ _ (write-at-so (capsuleBytes payload) out place) (λ z. omega arith)
+capsule-so (sending.To q) n payload out place = datagram-so payload out place
 
 frame-so : (s : Sending) → SendingSo s → (path : ℕ) (payload out : List ℕ) (place : ℕ) → WritingSo (frameWritten s path payload out place)
 unfolding frameWritten putFrame refuses
 frame-so (sending.Refused why) n path payload out place = n
-frame-so (sending.To q) n path payload out place =
-    pick WritingSo (leb (length payload) 65535) _ _ (pick WritingSo (leb (length (frameBytes (q .0) payload)) path) _ _ (write-at-so (frameBytes (q .0) payload) out place) (λ z. omega arith)) (λ z. omega arith)
+frame-so (sending.To q) n path payload out place = fit-so (length payload) (length (frameBytes (q .0) payload)) path (frameBytes (q .0) payload) out place
 
-value-so : (whole : Bool) (t : ℕ) (v out : List ℕ) (place : ℕ) → WritingSo (writeValue whole t v out place)
-unfolding writeValue refuses
-value-so whole t v out place = pick WritingSo (whole && wellFormed t v) _ _ (write-at-so (capsuleOf t v) out place) (λ z. omega arith)
+frame-header-so : (s : Sending) → SendingSo s → (path n : ℕ) (out : List ℕ) (place : ℕ) → WritingSo (frameHeaderWritten s path n out place)
+unfolding frameHeaderWritten putFrameHeader refuses
+frame-header-so (sending.Refused why) s path n out place = s
+frame-header-so (sending.To q) s path n out place = fit-so n (length (encode (q .0)) + n) path (encode (q .0)) out place
 
-addresses-written-so : (t : ℕ) (row out : List ℕ) (place : ℕ) → WritingSo (writeAddresses t row out place)
-unfolding writeAddresses refuses
-addresses-written-so t row out place =
-    pick WritingSo (allOf idFits (entriesIn row)) _ _ (value-so (isWhole entrySize row) t (valueBytes entryBytes (entriesIn row)) out place) (λ z. omega arith)
+written-header-so : (t : Table) (id : StreamId) (ours peers path n : ℕ) (out : List ℕ) (place : ℕ) → WritingSo (writeFrameHeader t id ours peers path n out place)
+unfolding writeFrameHeader
+written-header-so t id ours peers path n out place = frame-header-so (sendingOf t id (agreed ours peers)) (send-so t id (agreed ours peers)) path n out place
 
 -- ---- translation
 
 answer-so : (e : Option Error) (v : Option Version) → TranslatedSo (answer e v)
 unfolding answer
 answer-so (some e) (some v) = tt
-answer-so (some e) none = λ z. omega arith
-answer-so none v = λ z. omega arith
-
-translate-so : (error version : ℕ) → TranslatedSo (translated error version)
-unfolding translated
-translate-so error version = answer-so (nth errors error) (nth versions version)
+answer-so (some e) none = no 16
+answer-so none v = no 16
 
 pub numbered-refusals : NumberedRefusals
-unfolding writeCapsuleRows writeFrameRows writeRoutes
+unfolding openOf feedOf closeOf lookOf listingOf writeVarint refuses openingOf closingOf judgedOf writeCapsule writeFrame writeAddresses writeRoutes translated
 numbered-refusals = record {
-  opens = open-so;
-  feeds = feed-so;
-  closes = close-so;
-  lists = list-so;
-  writes-varint = varint-so;
-  opens-stream = opening-so;
-  closes-side = closing-so;
-  judges = judge-so;
-  writes-capsule = λ qs ms id payload out place. capsule-so (sendingRows qs ms id true) (send-so qs ms id true) payload out place;
-  writes-frame = λ qs ms id ours peers path payload out place. frame-so (sendingRows qs ms id (agreed ours peers)) (send-so qs ms id (agreed ours peers)) path payload out place;
-  writes-addresses = addresses-written-so;
+  opens = λ role limit draft addresses. pick OpenedSo (isOpening (opening role limit draft addresses)) tt (no 2);
+  feeds = λ r p b. let n = length in feed-so r p b _ (verdict-so r (n p) (n (b .gathering)) (n (b .addresses)) (n (b .output)));
+  closes = λ r. pick CloseSo (isMakeable r) (pick CloseSo (r .finished) (no 1) (end-so (r .phase))) (no 0);
+  looks = λ r. pick LookedSo (isMakeable r) tt (no 0);
+  lists = λ s. pick ListedSo (leb (length s) longestBuffer) tt (no 15);
+  writes-varint = λ n out place. pick WritingSo (leb n largest) (write-so (encode n) out place) (no 5);
+  opens-stream = λ t id. pick OpeningSo (isBad t) (no 14) (request OpeningSo (λ q. openEntry (entryOf (q .0) t) (lowestFree t)) (quarterOf id) (no 6) (λ q. open-so (entryOf (q .0) t) (lowestFree t)));
+  closes-side = λ t id side. pick ClosingSo (isBad t) (no 14) (request ClosingSo (λ q. closeEntry side (entryOf (q .0) t)) (quarterOf id) (no 6) (λ q. close-so side (entryOf (q .0) t)));
+  quarters = quarter-so;
+  judges = λ t streams limit frame. pick JudgedSo (isBad t) (no 14) (pick JudgedSo (leb limit 65535) (pick JudgedSo (leb streams (2 ^ 60)) (read-so t streams limit (length frame) (readVarint frame)) (no 5)) (no 2));
+  writes-capsule = λ t id payload out place. capsule-so (sendingOf t id true) (send-so t id true) payload out place;
+  writes-frame = λ t id ours peers path payload out place. frame-so (sendingOf t id (agreed ours peers)) (send-so t id (agreed ours peers)) path payload out place;
+  finds-stream = find-so;
+  writes-frame-header = written-header-so;
+  writes-datagram = datagram-so;
+  writes-datagram-header = datagram-header-so;
+  writes-addresses = λ t row out place. pick WritingSo (allOf idFits (entriesIn row)) (value-so (isWhole entrySize row) t (valueBytes entryBytes (entriesIn row)) out place) (no 5);
   writes-routes = λ row out place. value-so (isWhole rangeSize row) route (valueBytes rangeBytes (rangesIn row)) out place;
-  translates = translate-so;
+  translates = λ error version. answer-so (nth errors error) (nth versions version);
 }

@@ -1,9 +1,9 @@
 -- Short ways on a reader in words. Assumes nothing.
-use Prim.Native.Nat.{ℕ, _-_, _≤_, _<_}
+use Prim.Native.Nat.{ℕ, _+_, _-_, _≤_, _<_}
 use mathlib.Core.Path.{_≡_, refl, sym, ap, _∙_}
 use mathlib.Core.List.{List}
+use native.Mathlib.Omega.{arith}
 use lib.ListN.{length, getD, set}
-use borrow.Author.Tests.{le-leb}
 use Rattle.capsule.specs.declared.opening.Opening.{Opening}
 use Rattle.capsule.specs.declared.opening.Report.{Report}
 use Rattle.capsule.specs.declared.reader.Ended.the-variants.{Nothing, Capsule}
@@ -20,10 +20,10 @@ use Rattle.capi.specs.declared.reader.FedAnswer.{FedAnswer}
 use Rattle.capi.specs.declared.reader.Tried.{Tried}
 use Rattle.capi.specs.declared.reader.Tried.the-variants.{Not, Fed}
 use Rattle.capi.specs.Numbers.{flagOf}
-use Rattle.capi.specs.Words.{phaseWords, wordsOf, phaseIn, withPhase, readerIn, openingIn}
+use Rattle.capi.specs.Words.{readerMark, phaseWords, wordsOf, phaseIn, withPhase, readerIn, openingIn}
 use Rattle.capi.specs.Reader.{fedReport, fedTook, FeedDone, fed, feedWords}
 use Rattle.capi.specs.Standing.{Stands, TriedRight}
-use Rattle.capi.proofs.StoredForm.{read-as-stored}
+use Rattle.capi.proofs.StoredForm.{reads-so, read-as-stored}
 use Rattle.capi.proofs.ReaderCalls.{feed-stored}
 
 -- ---- where an open reader stands
@@ -32,14 +32,14 @@ pub stands-other : (ws : List ℕ) → Stands ws Other
 unfolding Stands
 stands-other ws = tt
 
-module _ (ws : List ℕ) (a : getD ws 0 0 ≤ 1) (b : getD ws 2 0 ≤ 3) (c : getD ws 7 0 ≡ 0) where
+module _ (ws : List ℕ) (low : readerMark ≤ getD ws 0 0) (high : getD ws 0 0 ≤ readerMark + 1) (b : getD ws 2 0 ≤ 3) (c : getD ws 7 0 ≡ 0) where
   pub stands-between : getD ws 3 0 ≡ 0 → getD ws 4 0 ≡ 0 → getD ws 5 0 ≡ 0 → getD ws 6 0 ≡ 0 → Stands ws Between
-  unfolding Stands readerIn withPhase phaseIn openingIn flagOf
-  stands-between d e f g = rw (le-leb (getD ws 0 0) 1 a, le-leb (getD ws 2 0) 3 b, c, d, e, f, g)
+  unfolding Stands withPhase phaseIn openingIn flagOf
+  stands-between d e f g = sym (reads-so ws low high b (omega (arith, c)) (Is (fresh (openingIn ws))) (rw (c, d, e, f, g)))
 
   pub stands-within : getD ws 3 0 ≡ 2 → Stands ws Within
-  unfolding Stands readerIn withPhase phaseIn openingIn flagOf
-  stands-within d = rw (le-leb (getD ws 0 0) 1 a, le-leb (getD ws 2 0) 3 b, c, d)
+  unfolding Stands withPhase phaseIn openingIn flagOf
+  stands-within d = sym (reads-so ws low high b (omega (arith, c)) (Is (inValue (openingIn ws) (getD ws 4 0) (getD ws 5 0) (getD ws 6 0))) (rw (c, d)))
 
 pub between-reads : (ws : List ℕ) → Stands ws Between → readerIn ws ≡ Is (fresh (openingIn ws))
 unfolding Stands

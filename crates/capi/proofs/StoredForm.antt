@@ -1,11 +1,12 @@
 -- The stored form of a reader (specs/Claims.antt). Assumes nothing.
-use Prim.Native.Nat.{ℕ, _+_, _*_, _%_}
+use Prim.Native.Nat.{ℕ, _+_, _*_, _%_, _≤_}
 use mathlib.Core.Path.{_≡_, refl, sym}
 use mathlib.Core.Bool.{Bool, true, false, cond, not, _&&_}
 use mathlib.Core.List.{List, [], _∷_}
 use native.Mathlib.Omega.{arith}
+use lib.ListN.{getD}
 use lib.Dec.{leb, ltb, eqb}
-use borrow.Author.Tests.{le-leb, leb-true, ltb-true, ltb-false, eqb-true, eqb-false}
+use borrow.Author.Tests.{le-leb, leb-true, leb-false, ltb-true, ltb-false, eqb-true, eqb-false}
 use Rattle.wire.specs.Partial.{partial}
 use Rattle.wire.proofs.Parts.{parted}
 use Rattle.capsule.specs.declared.opening.Role.{Role}
@@ -16,20 +17,21 @@ use Rattle.capsule.specs.declared.reader.Reader.{Reader}
 use Rattle.capsule.proofs.Planning.{zero-one}
 use Rattle.capi.specs.declared.words.LoadedPhase.{LoadedPhase}
 use Rattle.capi.specs.declared.words.LoadedPhase.the-variants as phase
+use Rattle.capi.specs.declared.words.Loaded.{Loaded}
 use Rattle.capi.specs.declared.words.Loaded.the-variants as loaded
-use Rattle.capi.specs.Numbers.{flagOf, bitOf, roleOf}
-use Rattle.capi.specs.Words.{roleNumber, settingsNumber, draftIn, addressesIn, phaseWords, wordsOf, phaseIn, withPhase, readerIn}
+use Rattle.capi.specs.Numbers.{flagOf, bitOf}
+use Rattle.capi.specs.Words.{readerMark, roleWord, roleIn, settingsNumber, draftIn, addressesIn, phaseWords, wordsOf, phaseIn, withPhase, readerIn}
 use Rattle.capi.specs.Claims.{HaveIsByte, StoredRead, ReadAsStored}
 
 -- ---- numbers there and back
 
-role-small : (role : Role) → leb (roleNumber role) 1 ≡ true
-unfolding roleNumber
-role-small Endpoint = refl
-role-small Intermediary = refl
+role-marked : (role : Role) → (leb readerMark (roleWord role) && leb (roleWord role) (readerMark + 1)) ≡ true
+unfolding roleWord readerMark
+role-marked Endpoint = refl
+role-marked Intermediary = refl
 
-role-back : (role : Role) → roleOf (roleNumber role) ≡ role
-unfolding roleNumber roleOf
+role-back : (role : Role) → roleIn (roleWord role) ≡ role
+unfolding roleWord roleIn readerMark
 role-back Endpoint = refl
 role-back Intermediary = refl
 
@@ -43,13 +45,13 @@ unfolding bitOf flagOf
 bit-back true = refl
 bit-back false = refl
 
-role-there : (n : ℕ) → leb n 1 ≡ true → roleNumber (roleOf n) ≡ n
-unfolding roleNumber roleOf
-role-there n small = go (eqb n 0) refl
+role-there : (n : ℕ) → leb readerMark n ≡ true → leb n (readerMark + 1) ≡ true → roleWord (roleIn n) ≡ n
+unfolding roleWord roleIn
+role-there n low high = go (leb n readerMark) refl
   where
-    go : (t : Bool) → eqb n 0 ≡ t → roleNumber (cond t Endpoint Intermediary) ≡ n
-    go true e = sym (eqb-true n 0 e)
-    go false e = omega (arith, leb-true n 1 small, eqb-false n 0 e)
+    go : (t : Bool) → leb n readerMark ≡ t → roleWord (cond t Endpoint Intermediary) ≡ n
+    go true e = omega (arith, leb-true readerMark n low, leb-true n readerMark e)
+    go false e = omega (arith, leb-true n (readerMark + 1) high, leb-false n readerMark e)
 
 bit-there : (n : ℕ) → leb n 1 ≡ true → bitOf (flagOf n) ≡ n
 unfolding bitOf flagOf
@@ -83,6 +85,26 @@ settings-there n small = go (eqb (n % 2) 1) (ltb 1 n) refl refl
     go false true e f = omega (arith, leb-true n 3 small, eqb-false (n % 2) 1 e, ltb-true 1 n f)
     go false false e f = omega (arith, leb-true n 3 small, eqb-false (n % 2) 1 e, ltb-false 1 n f)
 
+-- ---- the four tests of words
+
+module _ (ws : List ℕ) where
+  pub reads-so : readerMark ≤ getD ws 0 0 → getD ws 0 0 ≤ readerMark + 1 → getD ws 2 0 ≤ 3 → getD ws 7 0 ≤ 1
+      → (x : Loaded) → x ≡ withPhase (getD ws 0 0) (getD ws 1 0) (getD ws 2 0) (getD ws 7 0) (phaseIn (getD ws 3 0) (getD ws 4 0) (getD ws 5 0) (getD ws 6 0)) → x ≡ readerIn ws
+  unfolding readerIn
+  reads-so low high settings mark x e = rw (le-leb readerMark (getD ws 0 0) low, le-leb (getD ws 0 0) (readerMark + 1) high, le-leb (getD ws 2 0) 3 settings, le-leb (getD ws 7 0) 1 mark) e
+
+  pub reads-not : (readerMark ≤ getD ws 0 0 → getD ws 0 0 ≤ readerMark + 1 → getD ws 2 0 ≤ 3 → getD ws 7 0 ≤ 1 → ⊥) → loaded.Nothing ≡ readerIn ws
+  unfolding readerIn
+  reads-not n = go (leb readerMark (getD ws 0 0)) (leb (getD ws 0 0) (readerMark + 1)) (leb (getD ws 2 0) 3) (leb (getD ws 7 0) 1) refl refl refl refl
+    where
+      go : (tl th ts tm : Bool) → leb readerMark (getD ws 0 0) ≡ tl → leb (getD ws 0 0) (readerMark + 1) ≡ th → leb (getD ws 2 0) 3 ≡ ts → leb (getD ws 7 0) 1 ≡ tm
+          → loaded.Nothing ≡ cond ((tl && th) && (ts && tm)) (withPhase (getD ws 0 0) (getD ws 1 0) (getD ws 2 0) (getD ws 7 0) (phaseIn (getD ws 3 0) (getD ws 4 0) (getD ws 5 0) (getD ws 6 0))) loaded.Nothing
+      go true true true true l h s m = absurd (n (leb-true readerMark (getD ws 0 0) l) (leb-true (getD ws 0 0) (readerMark + 1) h) (leb-true (getD ws 2 0) 3 s) (leb-true (getD ws 7 0) 1 m))
+      go true true true false l h s m = refl
+      go true true false tm l h s m = refl
+      go true false ts tm l h s m = refl
+      go false th ts tm l h s m = refl
+
 -- ---- what was stored is read back
 
 record Stored (x : Phase) : Type 0 where
@@ -104,7 +126,7 @@ unfolding wordsOf readerIn withPhase
 stored-read r byte =
     let q = phase-back (r .phase) byte in
     let s = settings-back (r .opening .draft) (r .opening .addresses) in
-    rw (q .words, role-small (r .opening .role), settings-small (r .opening .draft) (r .opening .addresses), bit-small (r .finished), q .back, role-back (r .opening .role), s .0, s .1, bit-back (r .finished))
+    rw (q .words, role-marked (r .opening .role), settings-small (r .opening .draft) (r .opening .addresses), bit-small (r .finished), q .back, role-back (r .opening .role), s .0, s .1, bit-back (r .finished))
 
 -- ---- nothing else is read as that reader
 
@@ -135,22 +157,24 @@ module _ (a0 a1 a2 a3 a4 a5 a6 a7 : ℕ) (r : Reader) where
   abbrev ws : List ℕ
   ws = a0 ∷ a1 ∷ a2 ∷ a3 ∷ a4 ∷ a5 ∷ a6 ∷ a7 ∷ []
 
-  with-stored : leb a0 1 ≡ true → leb a2 3 ≡ true → leb a7 1 ≡ true → (x : LoadedPhase) → phaseIn a3 a4 a5 a6 ≡ x → withPhase a0 a1 a2 a7 x ≡ loaded.Is r → wordsOf r ≡ ws
+  with-stored : leb readerMark a0 ≡ true → leb a0 (readerMark + 1) ≡ true → leb a2 3 ≡ true → leb a7 1 ≡ true → (x : LoadedPhase) → phaseIn a3 a4 a5 a6 ≡ x → withPhase a0 a1 a2 a7 x ≡ loaded.Is r → wordsOf r ≡ ws
   unfolding withPhase wordsOf
-  with-stored s0 s2 s7 phase.Nothing e h = zero-one (cc)
-  with-stored s0 s2 s7 (phase.Is p) e h =
-      let d : record { opening = record { role = roleOf a0; limit = a1; draft = draftIn a2; addresses = addressesIn a2 }; phase = p; finished = flagOf a7 } ≡ r = cc in
-      rw (← d, role-there a0 s0, settings-there a2 s2, bit-there a7 s7, phase-stored a3 a4 a5 a6 p e)
+  with-stored l0 h0 s2 s7 phase.Nothing e h = zero-one (cc)
+  with-stored l0 h0 s2 s7 (phase.Is p) e h =
+      let d : record { opening = record { role = roleIn a0; limit = a1; draft = draftIn a2; addresses = addressesIn a2 }; phase = p; finished = flagOf a7 } ≡ r = cc in
+      rw (← d, role-there a0 l0 h0, settings-there a2 s2, bit-there a7 s7, phase-stored a3 a4 a5 a6 p e)
 
-  read-tests : (t0 t2 t7 : Bool) → leb a0 1 ≡ t0 → leb a2 3 ≡ t2 → leb a7 1 ≡ t7 → cond (t0 && (t2 && t7)) (withPhase a0 a1 a2 a7 (phaseIn a3 a4 a5 a6)) loaded.Nothing ≡ loaded.Is r → wordsOf r ≡ ws
-  read-tests true true true s0 s2 s7 h = with-stored s0 s2 s7 (phaseIn a3 a4 a5 a6) refl h
-  read-tests true true false s0 s2 s7 h = zero-one (cc)
-  read-tests true false t7 s0 s2 s7 h = zero-one (cc)
-  read-tests false t2 t7 s0 s2 s7 h = zero-one (cc)
+  read-tests : (tl th t2 t7 : Bool) → leb readerMark a0 ≡ tl → leb a0 (readerMark + 1) ≡ th → leb a2 3 ≡ t2 → leb a7 1 ≡ t7
+      → cond ((tl && th) && (t2 && t7)) (withPhase a0 a1 a2 a7 (phaseIn a3 a4 a5 a6)) loaded.Nothing ≡ loaded.Is r → wordsOf r ≡ ws
+  read-tests true true true true l0 h0 s2 s7 h = with-stored l0 h0 s2 s7 (phaseIn a3 a4 a5 a6) refl h
+  read-tests true true true false l0 h0 s2 s7 h = zero-one (cc)
+  read-tests true true false t7 l0 h0 s2 s7 h = zero-one (cc)
+  read-tests true false t2 t7 l0 h0 s2 s7 h = zero-one (cc)
+  read-tests false th t2 t7 l0 h0 s2 s7 h = zero-one (cc)
 
   eight-stored : readerIn ws ≡ loaded.Is r → wordsOf r ≡ ws
   unfolding readerIn
-  eight-stored h = read-tests (leb a0 1) (leb a2 3) (leb a7 1) refl refl refl h
+  eight-stored h = read-tests (leb readerMark a0) (leb a0 (readerMark + 1)) (leb a2 3) (leb a7 1) refl refl refl refl h
 
 pub read-as-stored : ReadAsStored
 read-as-stored (a ∷ b ∷ c ∷ d ∷ e ∷ f ∷ g ∷ h ∷ []) r l x = eight-stored a b c d e f g h r x

@@ -1,5 +1,5 @@
 -- The numbers of include/maruzhenu.h: how arguments are read, and what answers say. One statement carries them: `Cases`, proved in proofs/Cases.antt.
-use Prim.Native.Nat.{ℕ, _-_, _^_}
+use Prim.Native.Nat.{ℕ, _+_, _-_, _^_}
 use mathlib.Core.Path.{_≡_}
 use mathlib.Core.Bool.{Bool, true, false}
 use mathlib.Core.List.{List, [], _∷_, _++_, map}
@@ -8,6 +8,7 @@ use Rattle.refusals.specs.Numbers.{refusal}
 use Rattle.wire.specs.declared.varint.Varint.the-variants as read
 use Rattle.wire.specs.declared.varint.Written.the-variants as written
 use Rattle.wire.specs.Partial.{partial}
+use Rattle.wire.specs.Units.{quarterOf, streamOf}
 use Rattle.capsule.specs.declared.opening.Role.{Role}
 use Rattle.capsule.specs.declared.opening.Role.the-variants.{Endpoint, Intermediary}
 use Rattle.capsule.specs.declared.opening.Report.the-variants.{Delivered, Dropped, Skipped, Passed, AddressDelivered, Malformed}
@@ -19,8 +20,18 @@ use Rattle.capsule.specs.declared.reader.FeedAnswer.the-variants as fedAs
 use Rattle.capsule.specs.declared.reader.CloseAnswer.the-variants as closedAs
 use Rattle.capsule.specs.Calls.{lent}
 use Rattle.capsule.specs.Reader.{opening}
+use Rattle.look.specs.declared.Buffer.the-variants.{Neither, Gathering, Addresses}
+use Rattle.look.specs.declared.Place.{Place}
+use Rattle.look.specs.declared.Place.the-variants as place
+use Rattle.look.specs.declared.Looked.{Looked}
+use Rattle.look.specs.declared.Looked.the-variants as looked
 use Rattle.streams.specs.declared.record.Side.the-variants.{Receive, Send}
+use Rattle.streams.specs.declared.record.StreamRecord.{StreamRecord}
+use Rattle.streams.specs.declared.table.Standing.the-variants as standing
+use Rattle.streams.specs.Tables.{Table, standingOf}
+use Rattle.datagram.specs.Sending.{putCapsule, putCapsuleHeader, writeFrameHeader}
 use Rattle.datagram.specs.declared.judge.Judged.the-variants as judged
+use Rattle.datagram.specs.Judging.{quarter}
 use Rattle.listing.specs.declared.Ending.the-variants as ending
 use Rattle.listing.specs.declared.Listed.the-variants as listed
 use Rattle.http.specs.declared.messages.Message.the-variants.{Request, Response}
@@ -33,21 +44,27 @@ use Rattle.capi.specs.declared.varint.WrittenAnswer.{WrittenAnswer}
 use Rattle.capi.specs.declared.words.Loaded.the-variants as loaded
 use Rattle.capi.specs.declared.reader.FedAnswer.{FedAnswer}
 use Rattle.capi.specs.declared.reader.ClosedAnswer.{ClosedAnswer}
+use Rattle.capi.specs.declared.sight.LookAnswer.{LookAnswer}
+use Rattle.capi.specs.declared.identifiers.QuarterAnswer.{QuarterAnswer}
+use Rattle.capi.specs.declared.identifiers.StreamIdAnswer.{StreamIdAnswer}
 use Rattle.capi.specs.declared.one_shot.ListingAnswer.{ListingAnswer}
 use Rattle.capi.specs.declared.table.OpenedAnswer.{OpenedAnswer}
+use Rattle.capi.specs.declared.table.FoundAnswer.{FoundAnswer}
 use Rattle.capi.specs.declared.table.SideClosedAnswer.{SideClosedAnswer}
 use Rattle.capi.specs.declared.frames.JudgedAnswer.{JudgedAnswer}
 use Rattle.capi.specs.declared.messages.TranslationAnswer.{TranslationAnswer}
 use Rattle.capi.specs.declared.address_capsules.AddressFound.{AddressFound}
 use Rattle.capi.specs.declared.address_capsules.RouteFound.{RouteFound}
 use Rattle.capi.specs.Numbers.{flagOf, roleOf, sideOf, statusOf, bitOf}
-use Rattle.capi.specs.Varint.{varintAnswer, writtenAnswer}
-use Rattle.capi.specs.Words.{wordsOf, readerIn}
+use Rattle.capi.specs.Varint.{Answered, varintAnswer, writtenAnswer, wrote, wroteBy}
+use Rattle.capi.specs.Words.{roleWord, wordsOf, readerIn}
 use Rattle.capi.specs.Reader as reader
 use Rattle.capi.specs.Reader.{openWords, fedAnswer, feedWords, closedAnswer, closeWords}
+use Rattle.capi.specs.Sight.{lookedAnswer, lookWords}
+use Rattle.capi.specs.Identifiers.{quarterAnswer, streamAnswer}
 use Rattle.capi.specs.OneShot.{listingAnswer}
 use Rattle.capi.specs.Table as table
-use Rattle.capi.specs.Table.{rows, openRows, closeRows}
+use Rattle.capi.specs.Table.{streamId, openTable, closeTable}
 use Rattle.capi.specs.Frames.{judgedAnswer}
 use Rattle.capi.specs.AddressCapsules.{foundNumber, cursor, addressFound, routeFound}
 use Rattle.capi.specs.Messages.{messageOf, translationAnswer}
@@ -66,17 +83,31 @@ fedSo refusal consumed count report t n error = record { refusal = refusal; cons
 abbrev closedSo : ℕ → ℕ → ℕ → ClosedAnswer
 closedSo refusal end error = record { refusal = refusal; end = end; error = error }
 
+abbrev lookSo : ℕ → ℕ → ℕ → ℕ → ℕ → ℕ → ℕ → ℕ → ℕ → LookAnswer
+lookSo refusal finished limit field t n toCome gathered buffer =
+    record { refusal = refusal; finished = finished; «datagram_limit» = limit; field = field; «capsule_type» = t; length = n; «to_come» = toCome; gathered = gathered; buffer = buffer }
+
+abbrev quarterSo : ℕ → ℕ → QuarterAnswer
+quarterSo refusal q = record { refusal = refusal; quarter = q }
+
+abbrev streamIdSo : ℕ → ℕ → StreamIdAnswer
+streamIdSo tooLarge id = record { «too_large» = tooLarge; «stream_id» = id }
+
 abbrev listedSo : ℕ → ℕ → ℕ → ℕ → ListingAnswer
 listedSo refusal capsules headers end = record { refusal = refusal; capsules = capsules; headers = headers; end = end }
 
 abbrev openedSo : ℕ → ℕ → OpenedAnswer
 openedSo refusal place = record { refusal = refusal; place = place }
 
-abbrev sideClosedSo : ℕ → ℕ → SideClosedAnswer
-sideClosedSo refusal freed = record { refusal = refusal; freed = freed }
+abbrev sideClosedSo : ℕ → ℕ → ℕ → SideClosedAnswer
+sideClosedSo refusal place freed = record { refusal = refusal; place = place; freed = freed }
 
-abbrev judgedSo : ℕ → ℕ → ℕ → ℕ → ℕ → ℕ → JudgedAnswer
-judgedSo refusal rule place start n error = record { refusal = refusal; rule = rule; place = place; start = start; length = n; error = error }
+abbrev judgedSo : ℕ → ℕ → ℕ → ℕ → ℕ → ℕ → ℕ → JudgedAnswer
+judgedSo refusal rule quarter place start n error = record { refusal = refusal; rule = rule; quarter = quarter; place = place; start = start; length = n; error = error }
+
+-- a record: its quarter and its flags
+abbrev rec : ℕ → ℕ → StreamRecord
+rec q flags = record { quarter = record { 0 = q }; flags = flags }
 
 abbrev translatedSo : ℕ → ℕ → ℕ → TranslationAnswer
 translatedSo refusal kind code = record { refusal = refusal; action = kind; code = code }
@@ -86,8 +117,15 @@ translatedSo refusal kind code = record { refusal = refusal; action = kind; code
 abbrev state : Role → ℕ → Bool → Bool → Phase → Bool → Reader
 state role limit draft addresses phase finished = record { opening = opening role limit draft addresses; phase = phase; finished = finished }
 
+-- "mrz", and the role's number in the last byte
+abbrev marked : ℕ → ℕ
+marked role = 0x6d727a00 + role
+
 abbrev words : ℕ → ℕ → ℕ → ℕ → ℕ → ℕ → ℕ → ℕ → List ℕ
-words role limit draft phase a b c finished = role ∷ limit ∷ draft ∷ phase ∷ a ∷ b ∷ c ∷ finished ∷ []
+words role limit draft phase a b c finished = marked role ∷ limit ∷ draft ∷ phase ∷ a ∷ b ∷ c ∷ finished ∷ []
+
+abbrev seen : Bool → Place → Looked
+seen finished at = looked.Seen (record { finished = finished; limit = 1200; place = at })
 
 abbrev nines : ℕ → List ℕ
 nines n = replicate n 9
@@ -115,6 +153,36 @@ routeSo found next version protocol start end =
 
 abbrev all : ℕ
 all = 2 ^ 64 - 1
+
+-- finding a stream, and the writers of headers and of capsules without a table
+abbrev standingSo : ℕ → ℕ → FoundAnswer
+standingSo refusal place = record { refusal = refusal; place = place }
+
+abbrev streams : Table
+streams = rec 0 0 ∷ rec 64 15 ∷ rec 5 11 ∷ []
+
+abbrev stands : Table → ℕ → FoundAnswer
+stands t id = table.foundAnswer (standingOf t (table.streamId id))
+
+-- for stream 256, whose quarter 64 has two bytes, into four bytes
+abbrev header : ℕ → ℕ → ℕ → ℕ → Answered
+header peer path n place = wroteBy (writeFrameHeader streams (table.streamId 256) 1 peer path n (nines 4) place)
+
+pub record SendingCases : Type 0 where
+  pub standings : map table.foundAnswer (standing.Refused (refusal 10) ∷ standing.At 0 ∷ standing.At 63 ∷ []) ≡ standingSo 10 0 ∷ standingSo 0 0 ∷ standingSo 0 63 ∷ []
+  -- at places 1 and 2; not there, no request stream; a bad table
+  pub finds : map (stands streams) (256 ∷ 20 ∷ 0 ∷ 257 ∷ []) ≡ standingSo 0 1 ∷ standingSo 0 2 ∷ standingSo 10 0 ∷ standingSo 7 0 ∷ []
+  pub finds-bad : stands (rec 5 1 ∷ []) 20 ≡ standingSo 15 0
+  -- written; refused: settings, side, length, path size, output
+  pub frame-headers :
+      header 1 1002 1000 1 ∷ header 0 1002 1000 1 ∷ header 1 70000 65536 1 ∷ header 1 1001 1000 1 ∷ header 1 1002 1000 3 ∷ []
+      ≡ wrote (wroteSo 0 2) (9 ∷ 0x40 ∷ 0x40 ∷ 9 ∷ []) ∷ wrote (wroteSo 11 0) (nines 4) ∷ wrote (wroteSo 6 0) (nines 4) ∷ wrote (wroteSo 14 0) (nines 4) ∷ wrote (wroteSo 5 0) (nines 4) ∷ []
+  pub frame-header-closed : wroteBy (writeFrameHeader streams (table.streamId 20) 1 1 1200 4 (nines 4) 0) ≡ wrote (wroteSo 12 0) (nines 4)
+  pub datagrams :
+      map (λ n. wroteBy (putCapsule (7 ∷ 8 ∷ []) (nines 6) n)) (1 ∷ 3 ∷ all ∷ []) ≡ wrote (wroteSo 0 4) (9 ∷ 0 ∷ 2 ∷ 7 ∷ 8 ∷ 9 ∷ []) ∷ wrote (wroteSo 5 0) (nines 6) ∷ wrote (wroteSo 5 0) (nines 6) ∷ []
+  pub datagram-headers :
+      map (λ n. wroteBy (putCapsuleHeader n (nines 4) 1)) (2 ∷ 300 ∷ 65535 ∷ 65536 ∷ [])
+      ≡ wrote (wroteSo 0 2) (9 ∷ 0 ∷ 2 ∷ 9 ∷ []) ∷ wrote (wroteSo 0 3) (9 ∷ 0 ∷ 0x41 ∷ 0x2c ∷ []) ∷ wrote (wroteSo 5 0) (nines 4) ∷ wrote (wroteSo 6 0) (nines 4) ∷ []
 
 pub record Cases : Type 0 where
   -- "Readings of numbers"
@@ -152,7 +220,8 @@ pub record Cases : Type 0 where
       ∷ []
   pub closings :
       map closedAnswer (closedAs.Refused (refusal 2) ∷ closedAs.Clean ∷ closedAs.Truncated ∷ []) ≡ closedSo 2 0 0 ∷ closedSo 0 1 0 ∷ closedSo 0 2 1 ∷ []
-  -- the words of a reader in each phase
+  -- the two first words, and the words of a reader in each phase
+  pub first-words : map roleWord (Endpoint ∷ Intermediary ∷ []) ≡ 0x6d727a00 ∷ 0x6d727a01 ∷ []
   pub stored-forms :
       map wordsOf
       (state Endpoint 1200 false false (InType (partial 1 0x40)) false
@@ -161,10 +230,13 @@ pub record Cases : Type 0 where
       ∷ state Endpoint 1200 true true (InValue 5 8 3) true
       ∷ [])
       ≡ words 0 1200 0 0 1 0x40 0 0 ∷ words 1 1200 2 1 5 1 0x40 0 ∷ words 0 1200 1 2 5 8 3 1 ∷ words 0 1200 3 2 5 8 3 1 ∷ []
-  -- a role, settings, a finished mark and a phase that are none; a word that is not used; a count of bytes above 255
+  -- no mark, the numbers beside the two first words; settings, a finished mark and a phase that are none; a word that is not used; a count of bytes above 255
   pub other-words :
       map readerIn
-      (words 2 0 0 0 0 0 0 0
+      (zeros 8
+      ∷ (1 ∷ zeros 7)
+      ∷ (0x6d7279ff ∷ zeros 7)
+      ∷ words 2 0 0 0 0 0 0 0
       ∷ words 0 0 4 0 0 0 0 0
       ∷ words 0 0 0 0 0 0 0 2
       ∷ words 0 0 0 3 0 0 0 0
@@ -172,7 +244,7 @@ pub record Cases : Type 0 where
       ∷ words 0 0 0 0 256 0 0 0
       ∷ words 0 0 0 1 5 256 0 0
       ∷ [])
-      ≡ replicate 7 loaded.Nothing
+      ≡ replicate 10 loaded.Nothing
   pub opens : openWords (nines 8) 1 65535 2 0 ≡ reader.opened 0 (words 1 65535 1 0 0 0 0 0)
   pub opens-addresses : openWords (nines 8) 0 65535 0 2 ≡ reader.opened 0 (words 0 65535 2 0 0 0 0 0)
   pub opens-not : openWords (nines 8) 0 65536 0 1 ≡ reader.opened 3 (nines 8)
@@ -195,6 +267,29 @@ pub record Cases : Type 0 where
   pub closes-clean : closeWords (words 0 6 0 0 0 0 0 0) ≡ reader.closed (closedSo 0 1 0) (words 0 6 0 0 0 0 0 1)
   pub closes-again : closeWords (words 0 6 0 0 0 0 0 1) ≡ reader.closed (closedSo 2 0 0) (words 0 6 0 0 0 0 0 1)
   pub closes-not : closeWords (nines 8) ≡ reader.closed (closedSo 1 0 0) (nines 8)
+  -- a look: refused; each field, and each buffer
+  pub looks :
+      map lookedAnswer
+      (looked.Refused (refusal 1)
+      ∷ seen false place.Between
+      ∷ seen true place.InType
+      ∷ seen false (place.InLength 23)
+      ∷ seen false (place.InValue 23 9 4 0 Neither)
+      ∷ seen false (place.InValue 23 9 4 5 Gathering)
+      ∷ seen true (place.InValue 23 9 4 5 Addresses)
+      ∷ [])
+      ≡ lookSo 1 0 0 0 0 0 0 0 0
+      ∷ lookSo 0 0 1200 0 0 0 0 0 0
+      ∷ lookSo 0 1 1200 1 0 0 0 0 0
+      ∷ lookSo 0 0 1200 2 23 0 0 0 0
+      ∷ lookSo 0 0 1200 3 23 9 4 0 0
+      ∷ lookSo 0 0 1200 3 23 9 4 5 1
+      ∷ lookSo 0 1 1200 3 23 9 4 5 2
+      ∷ []
+  -- of words: in a value that is gathered, in an address capsule; a state that no calls make, and no reader's words
+  pub looks-words :
+      map lookWords (words 0 6 0 2 0 5 3 0 ∷ words 0 6 2 2 1 7 4 1 ∷ words 0 65536 0 0 0 0 0 0 ∷ zeros 8 ∷ [])
+      ≡ lookSo 0 0 6 3 0 5 3 2 1 ∷ lookSo 0 1 6 3 1 7 4 3 2 ∷ lookSo 1 0 0 0 0 0 0 0 0 ∷ lookSo 1 0 0 0 0 0 0 0 0 ∷ []
   -- entries of a value: found, none at the end and behind it, malformed
   pub founds : map foundNumber (found.End ∷ found.Entry ∷ found.Malformed ∷ []) ≡ 0 ∷ 1 ∷ 2 ∷ []
   pub addresses :
@@ -210,37 +305,45 @@ pub record Cases : Type 0 where
   pub listings :
       map listingAnswer (listed.Refused (refusal 16) ∷ listed.Counted 4 9 ending.Clean ∷ listed.Counted 4 9 ending.Truncated ∷ [])
       ≡ listedSo 16 0 0 0 ∷ listedSo 0 4 9 1 ∷ listedSo 0 4 9 2 ∷ []
+  -- stream IDs: the smallest and the largest of a request stream, others, and numbers that are none
+  pub quarters :
+      map (λ id. quarterAnswer (quarterOf (streamId id))) (0 ∷ 4 ∷ 5 ∷ (2 ^ 62 - 4) ∷ (2 ^ 62 - 1) ∷ (2 ^ 62) ∷ (2 ^ 64 - 4) ∷ [])
+      ≡ quarterSo 0 0 ∷ quarterSo 0 1 ∷ quarterSo 7 0 ∷ quarterSo 0 (2 ^ 60 - 1) ∷ quarterSo 7 0 ∷ quarterSo 7 0 ∷ quarterSo 7 0 ∷ []
+  pub stream-ids :
+      map (λ q. streamAnswer (streamOf (quarter q))) (0 ∷ 1 ∷ (2 ^ 60 - 1) ∷ (2 ^ 60) ∷ all ∷ [])
+      ≡ streamIdSo 0 0 ∷ streamIdSo 0 4 ∷ streamIdSo 0 (2 ^ 62 - 4) ∷ streamIdSo 1 0 ∷ streamIdSo 1 0 ∷ []
   -- tables: semantics asked for by 2, and not; the send side closed by 2, which frees the place, and by 1, which does not
-  pub opens-stream : openRows (5 ∷ 0 ∷ []) (3 ∷ 0 ∷ []) 4 2 ≡ table.opened (openedSo 0 1) (rows (5 ∷ 1 ∷ []) (3 ∷ 15 ∷ []))
-  pub opens-plain : openRows (5 ∷ 0 ∷ []) (3 ∷ 0 ∷ []) 4 0 ≡ table.opened (openedSo 0 1) (rows (5 ∷ 1 ∷ []) (3 ∷ 7 ∷ []))
-  pub opens-stream-not : openRows (5 ∷ 0 ∷ []) (3 ∷ 0 ∷ []) 20 0 ≡ table.opened (openedSo 9 0) (rows (5 ∷ 0 ∷ []) (3 ∷ 0 ∷ []))
-  pub closes-side : closeRows (1 ∷ 5 ∷ []) (15 ∷ 13 ∷ []) 20 2 ≡ table.closed (sideClosedSo 0 1) (rows (1 ∷ 0 ∷ []) (15 ∷ 0 ∷ []))
-  pub closes-one-side : closeRows (1 ∷ 5 ∷ []) (15 ∷ 15 ∷ []) 20 1 ≡ table.closed (sideClosedSo 0 0) (rows (1 ∷ 5 ∷ []) (15 ∷ 11 ∷ []))
-  pub closes-receive : closeRows (1 ∷ 5 ∷ []) (15 ∷ 15 ∷ []) 20 0 ≡ table.closed (sideClosedSo 0 0) (rows (1 ∷ 5 ∷ []) (15 ∷ 13 ∷ []))
-  pub closes-side-not : closeRows (1 ∷ []) (15 ∷ []) 20 0 ≡ table.closed (sideClosedSo 10 0) (rows (1 ∷ []) (15 ∷ []))
+  pub opens-stream : openTable (rec 5 3 ∷ rec 0 0 ∷ []) 4 2 ≡ table.opened (openedSo 0 1) (rec 5 3 ∷ rec 1 15 ∷ [])
+  pub opens-plain : openTable (rec 5 3 ∷ rec 0 0 ∷ []) 4 0 ≡ table.opened (openedSo 0 1) (rec 5 3 ∷ rec 1 7 ∷ [])
+  pub opens-stream-not : openTable (rec 5 3 ∷ rec 0 0 ∷ []) 20 0 ≡ table.opened (openedSo 9 0) (rec 5 3 ∷ rec 0 0 ∷ [])
+  pub closes-side : closeTable (rec 1 15 ∷ rec 5 13 ∷ []) 20 2 ≡ table.closed (sideClosedSo 0 1 1) (rec 1 15 ∷ rec 0 0 ∷ [])
+  pub closes-one-side : closeTable (rec 1 15 ∷ rec 5 15 ∷ []) 20 1 ≡ table.closed (sideClosedSo 0 1 0) (rec 1 15 ∷ rec 5 11 ∷ [])
+  pub closes-receive : closeTable (rec 1 15 ∷ rec 5 15 ∷ []) 20 0 ≡ table.closed (sideClosedSo 0 1 0) (rec 1 15 ∷ rec 5 13 ∷ [])
+  pub closes-side-not : closeTable (rec 1 15 ∷ []) 20 0 ≡ table.closed (sideClosedSo 10 0 0) (rec 1 15 ∷ [])
   -- a refusal, and rules 1 to 8, of a frame whose quarter has two bytes
   pub judgements :
       map (judgedAnswer (0x40 ∷ 1 ∷ 7 ∷ 8 ∷ 9 ∷ []))
       (judged.Refused (refusal 15)
       ∷ judged.ShortFrame
-      ∷ judged.QuarterTooLarge
-      ∷ judged.BeyondLimit
-      ∷ judged.NoStream
-      ∷ judged.ReceiveClosed
-      ∷ judged.NoSemantics
-      ∷ judged.TooLong
-      ∷ judged.Delivered 4
+      ∷ judged.QuarterTooLarge (quarter 5)
+      ∷ judged.BeyondLimit (quarter 6)
+      ∷ judged.NoStream (quarter 7)
+      ∷ judged.ReceiveClosed (quarter 8) 1
+      ∷ judged.NoSemantics (quarter 9) 2
+      ∷ judged.TooLong (quarter 10) 3
+      ∷ judged.Delivered (quarter 11) 4
       ∷ [])
-      ≡ judgedSo 15 0 0 0 0 0
-      ∷ judgedSo 0 1 0 0 0 3
-      ∷ judgedSo 0 2 0 0 0 4
-      ∷ judgedSo 0 3 0 0 0 5
-      ∷ judgedSo 0 4 0 0 0 0
-      ∷ judgedSo 0 5 0 0 0 0
-      ∷ judgedSo 0 6 0 0 0 2
-      ∷ judgedSo 0 7 0 0 0 0
-      ∷ judgedSo 0 8 4 2 3 0
+      ≡ judgedSo 15 0 0 0 0 0 0
+      ∷ judgedSo 0 1 0 0 0 0 3
+      ∷ judgedSo 0 2 5 0 0 0 4
+      ∷ judgedSo 0 3 6 0 0 0 5
+      ∷ judgedSo 0 4 7 0 0 0 0
+      ∷ judgedSo 0 5 8 1 0 0 0
+      ∷ judgedSo 0 6 9 2 0 0 2
+      ∷ judgedSo 0 7 10 3 0 0 0
+      ∷ judgedSo 0 8 11 4 2 3 0
       ∷ []
+  pub sendings : SendingCases
   pub translations :
       map translationAnswer
       (translation.Refused (refusal 17)

@@ -5,13 +5,17 @@ use mathlib.Core.Path.{_≡_}
 use mathlib.Core.Bool.{Bool, true, false, cond}
 use mathlib.Core.Option.{none}
 use mathlib.Core.List.{List, [], _∷_}
-use lib.ListN.{length, take, drop}
+use lib.ListN.{length, replicate, take, drop}
 use lib.Dec.{eqb}
 use Rattle.refusals.specs.declared.Refusal.{Refusal}
+use Rattle.refusals.specs.Numbers.{refusal}
 use Rattle.wire.specs.declared.units.StreamId.{StreamId}
+use Rattle.wire.specs.declared.units.QuarterOf.{QuarterOf}
+use Rattle.wire.specs.declared.units.QuarterOf.the-variants as quarterAs
 use Rattle.wire.specs.declared.varint.Written.{Written}
 use Rattle.wire.specs.declared.varint.Written.the-variants as writtenAs
 use Rattle.wire.specs.Bytes.{Bytes}
+use Rattle.wire.specs.Units.{quarterOf}
 use Rattle.wire.specs.Writing.{Writing, writeVarint}
 use Rattle.capsule.specs.declared.opening.Role.{Role}
 use Rattle.capsule.specs.declared.reader.Phase.{Phase}
@@ -33,29 +37,36 @@ use Rattle.streams.specs.declared.table.Opening.{Opening}
 use Rattle.streams.specs.declared.table.Opening.the-variants as openingAs
 use Rattle.streams.specs.declared.table.Closing.{Closing}
 use Rattle.streams.specs.declared.table.Closing.the-variants as closingAs
-use Rattle.streams.specs.Tables.{tableOpened, tableClosed}
-use Rattle.streams.specs.Rows.{tableOf, isBadRows, openingRows, closingRows}
+use Rattle.streams.specs.declared.table.Standing.{Standing}
+use Rattle.streams.specs.declared.table.Standing.the-variants as standingAs
+use Rattle.streams.specs.Tables.{Table, isBad, openingOf, closingOf, standingOf}
 use Rattle.datagram.specs.declared.judge.Judged.{Judged}
 use Rattle.datagram.specs.declared.judge.Judged.the-variants as judged
-use Rattle.datagram.specs.Judging.{judgedRows, payloadRows}
-use Rattle.datagram.specs.Sending.{writeCapsuleRows, writeFrameRows}
+use Rattle.datagram.specs.Judging.{judgedOf, payloadOf}
+use Rattle.datagram.specs.Sending.{putCapsule, putCapsuleHeader, writeCapsule, writeFrame, writeFrameHeader}
 use Rattle.addresses.specs.Handing.{nextAddress, nextRange}
 use Rattle.address_writer.specs.Writer.{writeAddresses, writeRoutes}
+use Rattle.look.specs.declared.Place.{Place}
+use Rattle.look.specs.declared.Looked.{Looked}
+use Rattle.look.specs.declared.Looked.the-variants as lookedAs
+use Rattle.look.specs.Looking.{lookOf}
 use Rattle.listing.specs.declared.Listed.{Listed}
 use Rattle.listing.specs.declared.Listed.the-variants as listed
 use Rattle.listing.specs.Listing.{listingOf}
 use Rattle.http.specs.declared.translation.Translation.{Translation}
 use Rattle.http.specs.declared.translation.Translation.the-variants as translation
 use Rattle.http.specs.Translation.{translated}
-use Rattle.capi.specs.declared.words.Loaded.the-variants.{Is}
+use Rattle.capi.specs.declared.words.Loaded.the-variants.{Nothing, Is}
 use Rattle.capi.specs.declared.reader.FedAnswer.{FedAnswer}
 use Rattle.capi.specs.declared.reader.ClosedAnswer.{ClosedAnswer}
-use Rattle.capi.specs.Numbers.{roleOf, flagOf}
+use Rattle.capi.specs.Numbers.{roleOf, flagOf, bitOf}
 use Rattle.capi.specs.Varint.{wroteBy}
 use Rattle.capi.specs.Words.{wordsOf, readerIn}
-use Rattle.capi.specs.Reader.{openWords, fedAnswer, feedWords, closedAnswer, closeWords}
-use Rattle.capi.specs.Table.{rows, rowsOpened, openRows, rowsClosed, closeRows}
+use Rattle.capi.specs.Reader.{openWords, fedRefused, fedAnswer, fed, feedWords, closedAnswer, closed, closeWords}
+use Rattle.capi.specs.Table.{openTable, closeTable}
 use Rattle.capi.specs.Frames.{judgedAnswer}
+use Rattle.capi.specs.Sight.{sightAnswer, lookedAnswer, lookWords}
+use Rattle.capi.specs.Identifiers.{quarterAnswer}
 use Rattle.capi.specs.AddressCapsules.{cursor, addressFound, routeFound}
 
 -- ---- the stored form of a reader (proofs/StoredForm.antt)
@@ -84,6 +95,16 @@ RefusedReaderLeaves =
     × ((p : List ℕ) (b : Lent) → (feedWords ws p b .answer .refusal ≡ 0 → ⊥) → (feedWords ws p b .words ≡ ws) × (feedWords ws p b .buffers ≡ b))
     × ((closeWords ws .answer .refusal ≡ 0 → ⊥) → closeWords ws .words ≡ ws)
 
+-- words that are all 0 are no reader's: each call is refused 1, and leaves them and all buffers
+abbrev pub zeroWords : List ℕ
+zeroWords = replicate 8 0
+
+pub record ZeroWordsRefused : Type 0 where
+  pub no-reader : readerIn zeroWords ≡ Nothing
+  pub feeds : (p : List ℕ) (b : Lent) → feedWords zeroWords p b ≡ fed (fedRefused (refusal 1)) zeroWords b
+  pub closes : closeWords zeroWords ≡ closed (closedAnswer (closedAs.Refused (refusal 1))) zeroWords
+  pub looks : lookWords zeroWords ≡ lookedAnswer (lookedAs.Refused (refusal 1))
+
 -- the next call finds the reader that was opened
 abbrev pub OpenKept : Type 0
 OpenKept =
@@ -105,6 +126,13 @@ pub record CloseKept (r : Reader) : Type 0 where
 
 abbrev pub ReaderKept : Type 0
 ReaderKept = (r : Reader) → isMakeable r ≡ true → ((p : List ℕ) (b : Lent) → Bytes p → FeedKept r p b) × CloseKept r
+
+-- a look at the words is the look at the reader that they are; wherever its stream stands the mark and the limit are told
+pub record LookKept : Type 0 where
+  pub looks : (r : Reader) → HaveIsByte (r .phase) → lookWords (wordsOf r) ≡ lookedAnswer (lookOf r)
+  pub tells :
+      (finished : Bool) (limit : ℕ) (place : Place)
+      → let a = sightAnswer finished limit place in (a .refusal ≡ 0) × (a .finished ≡ bitOf finished) × (a .«datagram_limit» ≡ limit)
 
 -- any list of calls (proofs/Throughout.antt): the answers in numbers, and the buffers that each call leaves
 pub data Numbers : Type 0 where
@@ -158,38 +186,27 @@ EntriesGoOn =
     → (let a = addressFound (nextAddress v (cursor at)) in GoesOn v at (a .found) (a .next))
     × (let r = routeFound (nextRange v (cursor at)) in GoesOn v at (r .found) (r .next))
 
--- ---- calls on a table in rows (proofs/RowCalls.antt)
+-- ---- calls on a table (proofs/TableCalls.antt)
 
--- the rows afterwards are the table afterwards
-abbrev pub RowsAreTable : Type 0
-RowsAreTable =
-    (qs ms : List ℕ)
-    → ((id : StreamId) (semantics : Bool) (o : Opening) → let after = rowsOpened qs ms id semantics o in tableOf (after .quarters) (after .marks) ≡ tableOpened (tableOf qs ms) id semantics o)
-    × ((c : Closing) → let after = rowsClosed qs ms c in tableOf (after .quarters) (after .marks) ≡ tableClosed (tableOf qs ms) c)
+-- a good table stays good
+abbrev pub TableStaysGood : Type 0
+TableStaysGood = (t : Table) (id x : ℕ) → isBad t ≡ false → (isBad (openTable t id x .table) ≡ false) × (isBad (closeTable t id x .table) ≡ false)
 
--- good rows stay good: of one length, and no bad table
-abbrev pub RowsStayGood : Type 0
-RowsStayGood =
-    (qs ms : List ℕ) (id x : ℕ)
-    → isBadRows qs ms ≡ false
-    → (isBadRows (openRows qs ms id x .table .quarters) (openRows qs ms id x .table .marks) ≡ false)
-    × (isBadRows (closeRows qs ms id x .table .quarters) (closeRows qs ms id x .table .marks) ≡ false)
-
--- a refusal leaves both rows
+-- a refusal leaves the table
 abbrev pub RefusedTableLeaves : Type 0
 RefusedTableLeaves =
-    (qs ms : List ℕ) (id x : ℕ)
-    → ((openRows qs ms id x .answer .refusal ≡ 0 → ⊥) → openRows qs ms id x .table ≡ rows qs ms)
-    × ((closeRows qs ms id x .answer .refusal ≡ 0 → ⊥) → closeRows qs ms id x .table ≡ rows qs ms)
+    (t : Table) (id x : ℕ)
+    → ((openTable t id x .answer .refusal ≡ 0 → ⊥) → openTable t id x .table ≡ t)
+    × ((closeTable t id x .answer .refusal ≡ 0 → ⊥) → closeTable t id x .table ≡ t)
 
 -- ---- payloads and writers (proofs/Payloads.antt)
 
 -- the answered part lies in the frame and is its payload: empty where it is not delivered
 abbrev pub PayloadPart : Type 0
 PayloadPart =
-    (qs ms : List ℕ) (streams limit : ℕ) (frame : List ℕ)
-    → let a = judgedAnswer frame (judgedRows qs ms streams limit frame) in
-    (a .start + a .length ≤ length frame) × (take (a .length) (drop (a .start) frame) ≡ payloadRows qs ms streams limit frame)
+    (t : Table) (streams limit : ℕ) (frame : List ℕ)
+    → let a = judgedAnswer frame (judgedOf t streams limit frame) in
+    (a .start + a .length ≤ length frame) × (take (a .length) (drop (a .start) frame) ≡ payloadOf t streams limit frame)
 
 -- a refusal leaves the output
 abbrev pub RefusalLeaves : Writing → List ℕ → Type 0
@@ -199,8 +216,11 @@ abbrev pub RefusedWriteLeaves : Type 0
 RefusedWriteLeaves =
     (out : List ℕ) (place : ℕ)
     → ((n : ℕ) → RefusalLeaves (writeVarint n out place) out)
-    × ((qs ms : List ℕ) (id : StreamId) (payload : List ℕ) → RefusalLeaves (writeCapsuleRows qs ms id payload out place) out)
-    × ((qs ms : List ℕ) (id : StreamId) (ours peers path : ℕ) (payload : List ℕ) → RefusalLeaves (writeFrameRows qs ms id ours peers path payload out place) out)
+    × ((t : Table) (id : StreamId) (payload : List ℕ) → RefusalLeaves (writeCapsule t id payload out place) out)
+    × ((t : Table) (id : StreamId) (ours peers path : ℕ) (payload : List ℕ) → RefusalLeaves (writeFrame t id ours peers path payload out place) out)
+    × ((t : Table) (id : StreamId) (ours peers path n : ℕ) → RefusalLeaves (writeFrameHeader t id ours peers path n out place) out)
+    × ((payload : List ℕ) → RefusalLeaves (putCapsule payload out place) out)
+    × ((n : ℕ) → RefusalLeaves (putCapsuleHeader n out place) out)
     × ((t : ℕ) (row : List ℕ) → RefusalLeaves (writeAddresses t row out place) out)
     × ((row : List ℕ) → RefusalLeaves (writeRoutes row out place) out)
 
@@ -222,6 +242,10 @@ ClosedSo (closedAs.Refused why) = NotZero why
 ClosedSo closedAs.Clean = Unit {0}
 ClosedSo closedAs.Truncated = Unit {0}
 
+abbrev pub LookedSo : Looked → Type 0
+LookedSo (lookedAs.Refused why) = NotZero why
+LookedSo (lookedAs.Seen sight) = Unit {0}
+
 abbrev pub ListedSo : Listed → Type 0
 ListedSo (listed.Refused why) = NotZero why
 ListedSo (listed.Counted capsules headers ending) = Unit {0}
@@ -234,20 +258,28 @@ abbrev pub OpeningSo : Opening → Type 0
 OpeningSo (openingAs.Refused why) = NotZero why
 OpeningSo (openingAs.Opened i) = Unit {0}
 
+abbrev pub StandingSo : Standing → Type 0
+StandingSo (standingAs.Refused why) = NotZero why
+StandingSo (standingAs.At i) = Unit {0}
+
 abbrev pub ClosingSo : Closing → Type 0
 ClosingSo (closingAs.Refused why) = NotZero why
-ClosingSo (closingAs.Closed i r freed) = Unit {0}
+ClosingSo (closingAs.Closed i freed) = Unit {0}
+
+abbrev pub QuarterSo : QuarterOf → Type 0
+QuarterSo quarterAs.NotRequestStream = quarterAnswer quarterAs.NotRequestStream .refusal ≡ 0 → ⊥
+QuarterSo (quarterAs.Is q) = Unit {0}
 
 abbrev pub JudgedSo : Judged → Type 0
 JudgedSo (judged.Refused why) = NotZero why
 JudgedSo judged.ShortFrame = Unit {0}
-JudgedSo judged.QuarterTooLarge = Unit {0}
-JudgedSo judged.BeyondLimit = Unit {0}
-JudgedSo judged.NoStream = Unit {0}
-JudgedSo judged.ReceiveClosed = Unit {0}
-JudgedSo judged.NoSemantics = Unit {0}
-JudgedSo judged.TooLong = Unit {0}
-JudgedSo (judged.Delivered place) = Unit {0}
+JudgedSo (judged.QuarterTooLarge q) = Unit {0}
+JudgedSo (judged.BeyondLimit q) = Unit {0}
+JudgedSo (judged.NoStream q) = Unit {0}
+JudgedSo (judged.ReceiveClosed q place) = Unit {0}
+JudgedSo (judged.NoSemantics q place) = Unit {0}
+JudgedSo (judged.TooLong q place) = Unit {0}
+JudgedSo (judged.Delivered q place) = Unit {0}
 
 abbrev pub TranslatedSo : Translation → Type 0
 TranslatedSo (translation.Refused why) = NotZero why
@@ -257,13 +289,19 @@ pub record NumberedRefusals : Type 0 where
   pub opens : (role : Role) (limit : ℕ) (draft addresses : Bool) → OpenedSo (openOf role limit draft addresses)
   pub feeds : (r : Reader) (p : List ℕ) (b : Lent) → FedSo (feedOf r p b .answer)
   pub closes : (r : Reader) → ClosedSo (closeOf r .answer)
+  pub looks : (r : Reader) → LookedSo (lookOf r)
   pub lists : (s : List ℕ) → ListedSo (listingOf s)
   pub writes-varint : (n : ℕ) (out : List ℕ) (place : ℕ) → WrittenSo (writeVarint n out place .answer)
-  pub opens-stream : (qs ms : List ℕ) (id : StreamId) → OpeningSo (openingRows qs ms id)
-  pub closes-side : (qs ms : List ℕ) (id : StreamId) (side : Side) → ClosingSo (closingRows qs ms id side)
-  pub judges : (qs ms : List ℕ) (streams limit : ℕ) (frame : List ℕ) → JudgedSo (judgedRows qs ms streams limit frame)
-  pub writes-capsule : (qs ms : List ℕ) (id : StreamId) (payload out : List ℕ) (place : ℕ) → WrittenSo (writeCapsuleRows qs ms id payload out place .answer)
-  pub writes-frame : (qs ms : List ℕ) (id : StreamId) (ours peers path : ℕ) (payload out : List ℕ) (place : ℕ) → WrittenSo (writeFrameRows qs ms id ours peers path payload out place .answer)
+  pub opens-stream : (t : Table) (id : StreamId) → OpeningSo (openingOf t id)
+  pub closes-side : (t : Table) (id : StreamId) (side : Side) → ClosingSo (closingOf t id side)
+  pub quarters : (id : StreamId) → QuarterSo (quarterOf id)
+  pub judges : (t : Table) (streams limit : ℕ) (frame : List ℕ) → JudgedSo (judgedOf t streams limit frame)
+  pub writes-capsule : (t : Table) (id : StreamId) (payload out : List ℕ) (place : ℕ) → WrittenSo (writeCapsule t id payload out place .answer)
+  pub writes-frame : (t : Table) (id : StreamId) (ours peers path : ℕ) (payload out : List ℕ) (place : ℕ) → WrittenSo (writeFrame t id ours peers path payload out place .answer)
+  pub finds-stream : (t : Table) (id : StreamId) → StandingSo (standingOf t id)
+  pub writes-frame-header : (t : Table) (id : StreamId) (ours peers path n : ℕ) (out : List ℕ) (place : ℕ) → WrittenSo (writeFrameHeader t id ours peers path n out place .answer)
+  pub writes-datagram : (payload out : List ℕ) (place : ℕ) → WrittenSo (putCapsule payload out place .answer)
+  pub writes-datagram-header : (n : ℕ) (out : List ℕ) (place : ℕ) → WrittenSo (putCapsuleHeader n out place .answer)
   pub writes-addresses : (t : ℕ) (row out : List ℕ) (place : ℕ) → WrittenSo (writeAddresses t row out place .answer)
   pub writes-routes : (row out : List ℕ) (place : ℕ) → WrittenSo (writeRoutes row out place .answer)
   pub translates : (error version : ℕ) → TranslatedSo (translated error version)

@@ -8,5 +8,7 @@ pub mod Table
 pub mod Frames
 pub mod AddressCapsules
 pub mod Messages
+pub mod Sight
+pub mod Identifiers
 pub mod Claims
 pub mod Cases

@@ -31,6 +31,14 @@ use http::ties::close_error;
 use http::ties::report_error;
 use refusals::Refusal;
 
+#[repr(C)]
+pub struct OpeningNumbers {
+    pub role: u64,
+    pub datagram_limit: u64,
+    pub draft: u64,
+    pub addresses: u64,
+}
+
 // report: 0 no capsule ended, 1 delivered, 2 dropped, 3 skipped, 4 passed, 5 address capsule delivered, 6 malformed
 // error: the report's
 #[repr(C)]
@@ -54,16 +62,15 @@ pub struct ClosedAnswer {
 
 // The refusal's number, or 0.
 #[no_mangle]
-pub extern "C" fn mrz_reader_open(
-    words: &mut [u64; 8],
-    role: u64,
-    limit: u64,
-    draft: u64,
-    addresses: u64,
-) -> u64
-    ensures { λ r. ⌜ opened r (now (words .exit)) ≡ openWords (now (words .entry)) role limit draft addresses ⌝ }
+pub extern "C" fn mrz_reader_open(words: &mut [u64; 8], opening: OpeningNumbers) -> u64
+    ensures { λ r. ⌜ opened r (now (words .exit)) ≡ openWords (now (words .entry)) (opening .role) (opening .«datagram_limit») (opening .draft) (opening .addresses) ⌝ }
 {
-    match Reader::open(role_of(role), limit, flag_of(draft), flag_of(addresses)) {
+    match Reader::open(
+        role_of(opening.role),
+        opening.datagram_limit,
+        flag_of(opening.draft),
+        flag_of(opening.addresses),
+    ) {
         Opened::Refused(why) => refusal_number(why),
         Opened::Ready(reader) => {
             store(words, reader);

@@ -1,16 +1,18 @@
 // A reader kept in eight words of the host's (see specs/Words.antt).
 ghost use mathlib.Core.Path.{_≡_};
-ghost use Rattle.capi.specs.Words.{roleNumber, settingsNumber, draftIn, addressesIn, wordsOf, phaseIn, readerIn, openingIn};
+ghost use Rattle.capi.specs.Words.{roleWord, roleIn, settingsNumber, draftIn, addressesIn, wordsOf, phaseIn, readerIn, openingIn};
 ghost use Rattle.capi.specs.Standing.{Stands};
 use crate::numbers::bit_of;
 use crate::numbers::flag_of;
-use crate::numbers::role_of;
 use crate::numbers::wide;
 use capsule::opening::Opening;
 use capsule::opening::Role;
 use capsule::reader::Phase;
 use capsule::reader::Reader;
 use wire::partial::Partial;
+
+// What the first word is above the role's number: "mrz" and a byte of 0. Words that are all 0 are no reader's.
+const MARK: u64 = 0x6d727a00;
 
 // What some words are the stored form of.
 pub enum LoadedPhase {
@@ -57,6 +59,16 @@ fn load_phase(kind: u64, a: u64, b: u64, c: u64) -> LoadedPhase
     LoadedPhase::Nothing
 }
 
+// The role by its word.
+fn role_in(word: u64) -> Role
+    ensures { λ r. ⌜ r ≡ roleIn word ⌝ }
+{
+    if word <= MARK {
+        return Role::Endpoint;
+    }
+    Role::Intermediary
+}
+
 // The settings of an opening by their word.
 fn draft_in(settings: u64) -> bool
     ensures { λ r. ⌜ r ≡ draftIn settings ⌝ }
@@ -73,7 +85,10 @@ fn addresses_in(settings: u64) -> bool
 pub(crate) fn load(words: &[u64; 8]) -> Loaded
     ensures { λ r. ⌜ r ≡ readerIn (now (words .entry)) ⌝ }
 {
-    if words[0] > 1 {
+    if words[0] < MARK {
+        return Loaded::Nothing;
+    }
+    if words[0] > MARK + 1 {
         return Loaded::Nothing;
     }
     let settings = words[2];
@@ -87,7 +102,7 @@ pub(crate) fn load(words: &[u64; 8]) -> Loaded
         LoadedPhase::Nothing => Loaded::Nothing,
         LoadedPhase::Is(phase) => {
             let opening = Opening {
-                role: role_of(words[0]),
+                role: role_in(words[0]),
                 limit: words[1],
                 draft: draft_in(settings),
                 addresses: addresses_in(settings),
@@ -112,7 +127,10 @@ pub enum Standing {
 pub(crate) fn standing_of(words: &[u64; 8]) -> Standing
     ensures { λ r. ⌜ Stands (now (words .entry)) r ⌝ }
 {
-    if words[0] > 1 {
+    if words[0] < MARK {
+        return Standing::Other;
+    }
+    if words[0] > MARK + 1 {
         return Standing::Other;
     }
     if words[2] > 1 {
@@ -144,19 +162,19 @@ pub(crate) fn opening_in(words: &[u64; 8]) -> Opening
     ensures { λ r. ⌜ r ≡ openingIn (now (words .entry)) ⌝ }
 {
     Opening {
-        role: role_of(words[0]),
+        role: role_in(words[0]),
         limit: words[1],
         draft: draft_in(words[2]),
         addresses: addresses_in(words[2]),
     }
 }
 
-fn role_number(role: Role) -> u64
-    ensures { λ r. ⌜ r ≡ roleNumber role ⌝ }
+fn role_word(role: Role) -> u64
+    ensures { λ r. ⌜ r ≡ roleWord role ⌝ }
 {
     match role {
-        Role::Endpoint => 0,
-        Role::Intermediary => 1,
+        Role::Endpoint => MARK,
+        Role::Intermediary => MARK + 1,
     }
 }
 
@@ -177,7 +195,7 @@ fn words_of(reader: Reader) -> [u64; 8]
 {
     let opening = reader.opening;
     let kind = opening.role;
-    let role = role_number(kind);
+    let role = role_word(kind);
     let limit = opening.limit;
     let settings = settings_number(opening.draft, opening.addresses);
     let finished = bit_of(reader.finished);

@@ -54,7 +54,7 @@ impl Opening {
     }
 
     // Whether the value of such a capsule goes to the gathering buffer.
-    pub(crate) fn gathers(self, ctype: u64, length: u64) -> bool
+    pub fn gathers(self, ctype: u64, length: u64) -> bool
         ensures { λ r. ⌜ r ≡ gathers self ctype length ⌝ }
     {
         match self.kind(ctype) {
@@ -65,7 +65,7 @@ impl Opening {
     }
 
     // Whether the value of such a capsule goes to the second buffer.
-    pub(crate) fn keeps(self, ctype: u64, length: u64) -> bool
+    pub fn keeps(self, ctype: u64, length: u64) -> bool
         ensures { λ r. ⌜ r ≡ keeps self ctype length ⌝ }
     {
         match self.kind(ctype) {
@@ -76,7 +76,7 @@ impl Opening {
     }
 
     // How many value bytes complete such a capsule.
-    pub(crate) fn extent(self, ctype: u64, length: u64) -> u64
+    pub fn extent(self, ctype: u64, length: u64) -> u64
         ensures { λ r. ⌜ r ≡ extentOf self ctype length ⌝ }
     {
         match self.kind(ctype) {

@@ -1,8 +1,8 @@
 -- What is written is read back. Assumes nothing.
-use mathlib.Core.Path.{_≡_, sym, ap, _∙_, subst}
-use Prim.Native.Nat.{ℕ, _+_, _-_, _^_, _≤_}
+use mathlib.Core.Path.{_≡_, ap}
+use Prim.Native.Nat.{ℕ, _-_, _^_, _≤_}
 use native.Mathlib.Omega.{arith}
-use mathlib.Core.List.{List, [], _∷_, _++_}
+use mathlib.Core.List.{List}
 use lib.ListN.{length, drop, length-append}
 use lib.Seq.{drop-at}
 use borrow.Author.Tests.{le-leb, lt-ltb}
@@ -10,17 +10,17 @@ use Rattle.wire.specs.declared.varint.Varint.the-variants.{Whole}
 use Rattle.wire.specs.Varint.{largest, readVarint, leastSize, encode}
 use Rattle.wire.specs.Units.{largestQuarter}
 use Rattle.wire.proofs.Encoding.{read-back, length-encode, shortest}
-use Rattle.streams.specs.Tables.{Table}
 use Rattle.capsule_laws.proofs.Written.{one-written}
 use Rattle.datagram.specs.declared.judge.Judged.the-variants.{Delivered}
-use Rattle.datagram.specs.Judging.{judgedRecord, judgedFound, judgedQuarter, judgedRead, judgedOf, behind, isDelivered, ifDelivered, payloadOf}
-use Rattle.datagram.specs.Sending.{capsuleBytes, frameBytes}
+use Rattle.streams.specs.Tables.{Table, entryAt}
+use Rattle.datagram.specs.Judging.{quarter, judgedRecord, judgedEntry, judgedRead, judgedOf, afterQuarter, isDelivered, ifDelivered, payloadOf}
+use Rattle.datagram.specs.Sending.{capsuleHeader, capsuleBytes, frameBytes}
 use Rattle.datagram.specs.Claims.{CapsuleReadBack, Receives, FrameReadBack, HeadersShortest}
 
 -- ---- capsules
 
 pub capsule-read-back : CapsuleReadBack
-unfolding capsuleBytes
+unfolding capsuleBytes capsuleHeader
 capsule-read-back payload h = one-written 0 payload (omega arith) (unfold largest in omega arith)
 
 -- ---- frames
@@ -44,14 +44,14 @@ module _ (t : Table) (streams limit q place : ℕ) (payload : List ℕ) (r : Rec
   unfolding frameBytes
   rest-is = drop-at (encode q) payload size (length-encode q)
 
-  delivered : judgedOf t streams limit frame ≡ Delivered place
-  unfolding judgedOf judgedRead judgedQuarter judgedFound judgedRecord
+  delivered : judgedOf t streams limit frame ≡ Delivered (quarter q) place
+  unfolding judgedOf judgedRead judgedEntry judgedRecord entryAt
   delivered =
       let a : q ≤ largestQuarter = unfold largestQuarter in omega (arith, r .below, r .stated) in
       rw (r .good, le-leb limit 65535 (r .limited), le-leb streams (2 ^ 60) (r .stated), quarter-read, rest-length, le-leb q largestQuarter a, lt-ltb q streams (r .below), r .found, r .opened, r .knows, le-leb (length payload) limit h)
 
   same-payload : payloadOf t streams limit frame ≡ payload
-  unfolding payloadOf ifDelivered isDelivered behind
+  unfolding payloadOf ifDelivered isDelivered afterQuarter
   same-payload = rw (delivered, quarter-read) rest-is
 
 pub frame-read-back : FrameReadBack
@@ -60,7 +60,7 @@ frame-read-back t streams limit q place payload r h = (delivered t streams limit
 -- ---- shortest
 
 pub headers-shortest : HeadersShortest
-unfolding capsuleBytes frameBytes
+unfolding capsuleBytes capsuleHeader frameBytes
 headers-shortest n size s payload e =
     let m = shortest s n size e in (
       λ isN. omega (arith, m, length-append (encode (length payload)) payload, length-encode (length payload), ap leastSize isN),

@@ -1,3 +1,4 @@
 pub mod Judging
 pub mod Sending
 pub mod Claims
+pub mod Code

@@ -1,28 +1,31 @@
 -- Capsules and frames written (document 01, "Writers, settings, messages").
-use Prim.Native.Nat.{ℕ}
+use Prim.Native.Nat.{ℕ, _+_}
 use mathlib.Core.Bool.{Bool, true, cond, _&&_}
 use mathlib.Core.List.{List, _∷_, _++_}
-use lib.ListN.{length, getD}
+use lib.ListN.{length}
 use lib.Dec.{leb, eqb}
 use Rattle.refusals.specs.Numbers.{numberTooLarge, notARequestStream, notInTable, framesNotAgreed, sendSideClosed, noSemantics, frameTooLong, badTable}
 use Rattle.wire.specs.declared.units.StreamId.{StreamId}
 use Rattle.wire.specs.declared.units.Quarter.{Quarter}
 use Rattle.wire.specs.declared.units.QuarterOf.the-variants.{NotRequestStream, Is}
-use Rattle.wire.specs.Varint.{largest, encode}
+use Rattle.wire.specs.Varint.{encode}
 use Rattle.wire.specs.Writing.{Writing, refuses, writeAt}
 use Rattle.wire.specs.Units.{quarterOf}
 use Rattle.streams.specs.declared.record.StreamRecord.{StreamRecord}
-use Rattle.streams.specs.declared.table.Found.{Found}
-use Rattle.streams.specs.declared.table.Found.the-variants.{Nothing, At}
-use Rattle.streams.specs.Records.{blank}
-use Rattle.streams.specs.Tables.{Table, isBad, find}
-use Rattle.streams.specs.Rows.{tableOf}
+use Rattle.streams.specs.declared.table.Entry.{Entry}
+use Rattle.streams.specs.declared.table.Entry.the-variants.{Absent, Present}
+use Rattle.streams.specs.Records.{sendOpen, hasSemantics}
+use Rattle.streams.specs.Tables.{Table, isBad, entryOf}
 use Rattle.datagram.specs.declared.write.Sending.{Sending}
 use Rattle.datagram.specs.declared.write.Sending.the-variants.{Refused, To}
 
--- type 00, shortest length, payload (RFC 9297, section 3.5)
+-- type 00 and the shortest length, of n bytes (RFC 9297, section 3.5)
+unfoldable pub capsuleHeader : ℕ → List ℕ
+capsuleHeader n = 0 ∷ encode n
+
+-- header, payload
 unfoldable pub capsuleBytes : List ℕ → List ℕ
-capsuleBytes payload = 0 ∷ (encode (length payload) ++ payload)
+capsuleBytes payload = capsuleHeader (length payload) ++ payload
 
 -- quarter, payload (RFC 9297, section 2.1)
 unfoldable pub frameBytes : ℕ → List ℕ → List ℕ
@@ -35,28 +38,19 @@ agreed ours peers = eqb ours 1 && eqb peers 1
 -- 11, 12, 13
 unfoldable pub sendingRecord : StreamRecord → Quarter → Bool → Sending
 sendingRecord r q settings =
-    cond settings (cond (r .send) (cond (r .semantics) (To q) (Refused noSemantics)) (Refused sendSideClosed)) (Refused framesNotAgreed)
+    cond settings (cond (sendOpen r) (cond (hasSemantics r) (To q) (Refused noSemantics)) (Refused sendSideClosed)) (Refused framesNotAgreed)
 
-unfoldable pub sendingQuarter : Table → Quarter → Bool → Sending
-sendingQuarter t q settings = elim (find (q .0) t) [ Nothing ↦ Refused notInTable | At i ↦ sendingRecord (getD t i blank) q settings ]
+-- 10
+unfoldable pub sendingEntry : Entry → Quarter → Bool → Sending
+sendingEntry Absent q settings = Refused notInTable
+sendingEntry (Present i r) q settings = sendingRecord r q settings
 
 -- 15, 7, 10, then 11, 12, 13
 unfoldable pub sendingOf : Table → StreamId → Bool → Sending
 sendingOf t id settings =
     cond (isBad t)
     (Refused badTable)
-    (elim (quarterOf id) [ NotRequestStream ↦ Refused notARequestStream | Is q ↦ sendingQuarter t q settings ])
-
--- the same by what was found: whether the table is bad, where the quarter stands, the record there
-unfoldable pub sendingStands : Found → StreamRecord → Quarter → Bool → Sending
-sendingStands Nothing r q settings = Refused notInTable
-sendingStands (At i) r q settings = sendingRecord r q settings
-
-unfoldable pub sendingFrom : Bool → StreamId → Bool → Found → StreamRecord → Sending
-sendingFrom bad id settings found r =
-    cond bad
-    (Refused badTable)
-    (elim (quarterOf id) [ NotRequestStream ↦ Refused notARequestStream | Is q ↦ sendingStands found r q settings ])
+    (elim (quarterOf id) [ NotRequestStream ↦ Refused notARequestStream | Is q ↦ sendingEntry (entryOf (q .0) t) q settings ])
 
 -- 6, 5: a payload to send is at most 65,535 bytes
 unfoldable pub putCapsule : List ℕ → List ℕ → ℕ → Writing
@@ -69,6 +63,14 @@ putFrame q path payload out place =
     (cond (leb (length (frameBytes q payload)) path) (writeAt (frameBytes q payload) out place) (refuses frameTooLong out))
     (refuses numberTooLarge out)
 
+-- the same by the payload's length, and the header alone
+unfoldable pub putCapsuleHeader : ℕ → List ℕ → ℕ → Writing
+putCapsuleHeader n out place = cond (leb n 65535) (writeAt (capsuleHeader n) out place) (refuses numberTooLarge out)
+
+unfoldable pub putFrameHeader : ℕ → ℕ → ℕ → List ℕ → ℕ → Writing
+putFrameHeader q path n out place =
+    cond (leb n 65535) (cond (leb (length (encode q) + n) path) (writeAt (encode q) out place) (refuses frameTooLong out)) (refuses numberTooLarge out)
+
 unfoldable pub capsuleWritten : Sending → List ℕ → List ℕ → ℕ → Writing
 capsuleWritten (Refused r) payload out place = refuses r out
 capsuleWritten (To q) payload out place = putCapsule payload out place
@@ -77,10 +79,9 @@ unfoldable pub frameWritten : Sending → ℕ → List ℕ → List ℕ → ℕ 
 frameWritten (Refused r) path payload out place = refuses r out
 frameWritten (To q) path payload out place = putFrame (q .0) path payload out place
 
--- the same for any quarter: one above 2^62-1 is no varint
-unfoldable pub frameFor : Sending → ℕ → List ℕ → List ℕ → ℕ → Writing
-frameFor (Refused r) path payload out place = refuses r out
-frameFor (To q) path payload out place = cond (leb (q .0) largest) (putFrame (q .0) path payload out place) (refuses numberTooLarge out)
+unfoldable pub frameHeaderWritten : Sending → ℕ → ℕ → List ℕ → ℕ → Writing
+frameHeaderWritten (Refused r) path n out place = refuses r out
+frameHeaderWritten (To q) path n out place = putFrameHeader (q .0) path n out place
 
 unfoldable pub writeCapsule : Table → StreamId → List ℕ → List ℕ → ℕ → Writing
 writeCapsule t id payload out place = capsuleWritten (sendingOf t id true) payload out place
@@ -88,13 +89,6 @@ writeCapsule t id payload out place = capsuleWritten (sendingOf t id true) paylo
 unfoldable pub writeFrame : Table → StreamId → ℕ → ℕ → ℕ → List ℕ → List ℕ → ℕ → Writing
 writeFrame t id ours peers path payload out place = frameWritten (sendingOf t id (agreed ours peers)) path payload out place
 
--- ---- the table lent as rows: rows of unequal length are no table
-
-unfoldable pub sendingRows : List ℕ → List ℕ → StreamId → Bool → Sending
-sendingRows qs ms id settings = cond (eqb (length qs) (length ms)) (sendingOf (tableOf qs ms) id settings) (Refused badTable)
-
-unfoldable pub writeCapsuleRows : List ℕ → List ℕ → StreamId → List ℕ → List ℕ → ℕ → Writing
-writeCapsuleRows qs ms id payload out place = capsuleWritten (sendingRows qs ms id true) payload out place
-
-unfoldable pub writeFrameRows : List ℕ → List ℕ → StreamId → ℕ → ℕ → ℕ → List ℕ → List ℕ → ℕ → Writing
-writeFrameRows qs ms id ours peers path payload out place = frameWritten (sendingRows qs ms id (agreed ours peers)) path payload out place
+-- a frame's header, by the payload's length: the frame writer's order of refusals
+unfoldable pub writeFrameHeader : Table → StreamId → ℕ → ℕ → ℕ → ℕ → List ℕ → ℕ → Writing
+writeFrameHeader t id ours peers path n out place = frameHeaderWritten (sendingOf t id (agreed ours peers)) path n out place

@@ -29,13 +29,13 @@ use denote.Triple.Statement.{Triple}
 use Rattle.capsule.specs.declared.reader.CloseAnswer.{CloseAnswer}
 use Rattle.capsule.proofs.reader.CloseAnswer as E
 use Rattle.capsule.proofs.reader.CloseAnswer.Laws as E′
-use Rattle.host.proofs.Beside.{alone}
-use Rattle.host.proofs.ByValue.{valued, EntryByValue, OwedByValue, ends-by-value, meets-by-value}
-use Rattle.host.proofs.Calling.{Fact, Ensures}
-use Rattle.host.proofs.InPlace.{placed, calls-in-place}
-use Rattle.host.proofs.Lending.{refTo, lends-local, local-back}
-use Rattle.host.proofs.Paired.{Paired, whole-is}
-use Rattle.host.proofs.Plain.{PlainStruct, IsOf, valOf, makesOf, typedOf}
+use Rattle.walks.proofs.Beside.{alone}
+use Rattle.walks.proofs.ByValue.{valued, EntryByValue, OwedByValue, ends-by-value, meets-by-value}
+use Rattle.walks.proofs.Calling.{Fact, Ensures}
+use Rattle.walks.proofs.InPlace.{placed, calls-in-place}
+use Rattle.walks.proofs.Lending.{refTo, lends-local, local-back}
+use Rattle.walks.proofs.Paired.{Paired, whole-is}
+use Rattle.walks.proofs.Plain.{PlainStruct, IsOf, valOf, makesOf, typedOf}
 
 -- S: the struct; R: the result
 module _ (S : PlainStruct) (R : Paired S E.the-type E′.the-laws) (#g : Name) where

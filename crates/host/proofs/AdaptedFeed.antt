@@ -34,14 +34,14 @@ use denote.Triple.Statement.{Triple}
 use Rattle.capsule.specs.declared.reader.FeedAnswer.{FeedAnswer}
 use Rattle.capsule.proofs.reader.FeedAnswer as E
 use Rattle.capsule.proofs.reader.FeedAnswer.Laws as E′
-use Rattle.host.proofs.Beside.{four, four-of-five, others-fit}
-use Rattle.host.proofs.ByValue.{valued, EntryByValue, OwedByValue, ends-by-value, meets-by-value}
-use Rattle.host.proofs.Calling.{Fact, Ensures}
-use Rattle.host.proofs.InPlace.{placed, calls-in-place}
-use Rattle.host.proofs.Lending.{refTo, lends-local, local-back}
-use Rattle.host.proofs.Lying.{sv}
-use Rattle.host.proofs.Paired.{Paired, whole-is}
-use Rattle.host.proofs.Plain.{PlainStruct, IsOf, valOf, makesOf, typedOf}
+use Rattle.walks.proofs.Beside.{four, four-of-five, others-fit}
+use Rattle.walks.proofs.ByValue.{valued, EntryByValue, OwedByValue, ends-by-value, meets-by-value}
+use Rattle.walks.proofs.Calling.{Fact, Ensures}
+use Rattle.walks.proofs.InPlace.{placed, calls-in-place}
+use Rattle.walks.proofs.Lending.{refTo, lends-local, local-back}
+use Rattle.walks.proofs.Lying.{sv}
+use Rattle.walks.proofs.Paired.{Paired, whole-is}
+use Rattle.walks.proofs.Plain.{PlainStruct, IsOf, valOf, makesOf, typedOf}
 
 -- the type of a local that holds a slice
 abbrev sliceTy : Lifetime → Mutability → Ty

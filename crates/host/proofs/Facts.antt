@@ -8,11 +8,11 @@ use Rattle.capsule.proofs.reader.FeedAnswer as F
 use Rattle.capsule.proofs.reader.Closed as C
 use Rattle.capsule.proofs.reader.Fed as D
 use Rattle.host.specs.Connections.{SameBeside}
-use Rattle.host.proofs.Beside.{alone, four, four-of-five}
-use Rattle.host.proofs.ByValue.{valued}
-use Rattle.host.proofs.Calling.{Fact}
-use Rattle.host.proofs.InPlace.{placed}
-use Rattle.host.proofs.Plain.{reader-struct, connection-struct}
+use Rattle.walks.proofs.Beside.{alone, four, four-of-five}
+use Rattle.walks.proofs.ByValue.{valued}
+use Rattle.walks.proofs.Calling.{Fact}
+use Rattle.walks.proofs.InPlace.{placed}
+use Rattle.host.proofs.Structs.{reader-struct, connection-struct}
 
 abbrev pub Closes : Fact (placed reader-struct E.the-row 0 (alone 1))
 Closes κs a r e = closing (now (e .0)) r ≡ closeOf (now (a .0))

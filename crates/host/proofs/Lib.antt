@@ -1,13 +1,5 @@
 pub mod Refusals
-pub mod Plain
-pub mod Paired
-pub mod Lying
-pub mod Meeting
-pub mod Calling
-pub mod Lending
-pub mod Beside
-pub mod InPlace
-pub mod ByValue
+pub mod Structs
 pub mod Facts
 pub mod AdaptedClose
 pub mod AdaptedFeed

@@ -19,9 +19,10 @@ use Rattle.host.specs.declared.reader.Connection.{Connection}
 use Rattle.capsule.proofs.reader.Reader as T
 use Rattle.host.proofs.reader.Connection as O
 use Rattle.host.proofs.reader.Connection.Laws as O′
-use Rattle.host.proofs.Plain.{IsOf, valOf, reader-struct, connection-struct}
-use Rattle.host.proofs.Lying.{cellOf}
-use Rattle.host.proofs.Lending.{coded, borrowed, Lent, Lender, opens-struct, closes-struct, lends-struct, struct-back}
+use Rattle.walks.proofs.Plain.{IsOf, valOf}
+use Rattle.host.proofs.Structs.{reader-struct, connection-struct}
+use Rattle.walks.proofs.Lying.{cellOf}
+use Rattle.walks.proofs.Lending.{coded, borrowed, Lent, Lender, opens-struct, closes-struct, lends-struct, struct-back}
 
 -- the connection with another reader
 abbrev pub with-reader : Connection → Reader → Connection

@@ -10,6 +10,7 @@ use Rattle.http.specs.declared.settings.Setting.the-variants.{Accepted, 
 use Rattle.capsule.specs.declared.opening.Report.the-variants as report
 use Rattle.capsule.specs.declared.reader.CloseAnswer.the-variants as closedAs
 use Rattle.datagram.specs.declared.judge.Judged.the-variants as judged
+use Rattle.datagram.specs.Judging.{quarter}
 use Rattle.http.specs.declared.translation.Action.the-variants.{None}
 use Rattle.http.specs.declared.translation.Translation.the-variants.{Refused, Becomes}
 use Rattle.http.specs.Errors.{number, badSetting}
@@ -75,12 +76,12 @@ pub record Cases : Type 0 where
       map judgedError
       (judged.Refused (refusal 15)
       ∷ judged.ShortFrame
-      ∷ judged.QuarterTooLarge
-      ∷ judged.BeyondLimit
-      ∷ judged.NoStream
-      ∷ judged.ReceiveClosed
-      ∷ judged.NoSemantics
-      ∷ judged.TooLong
-      ∷ judged.Delivered 0
+      ∷ judged.QuarterTooLarge (quarter 5)
+      ∷ judged.BeyondLimit (quarter 5)
+      ∷ judged.NoStream (quarter 5)
+      ∷ judged.ReceiveClosed (quarter 5) 3
+      ∷ judged.NoSemantics (quarter 5) 3
+      ∷ judged.TooLong (quarter 5) 3
+      ∷ judged.Delivered (quarter 5) 3
       ∷ [])
       ≡ NoError ∷ Is (record { 0 = 3 }) ∷ Is (record { 0 = 4 }) ∷ Is (record { 0 = 5 }) ∷ NoError ∷ NoError ∷ Is (record { 0 = 2 }) ∷ NoError ∷ NoError ∷ []

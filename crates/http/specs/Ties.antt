@@ -25,10 +25,10 @@ reportError (report.Malformed t n) = Is (httpError malformed)
 unfoldable pub judgedError : Judged → ErrorOf
 judgedError (judged.Refused r) = NoError
 judgedError judged.ShortFrame = Is (httpError shortFrame)
-judgedError judged.QuarterTooLarge = Is (httpError quarterTooLarge)
-judgedError judged.BeyondLimit = Is (httpError beyondLimit)
-judgedError judged.NoStream = NoError
-judgedError judged.ReceiveClosed = NoError
-judgedError judged.NoSemantics = Is (httpError noSemantics)
-judgedError judged.TooLong = NoError
-judgedError (judged.Delivered place) = NoError
+judgedError (judged.QuarterTooLarge q) = Is (httpError quarterTooLarge)
+judgedError (judged.BeyondLimit q) = Is (httpError beyondLimit)
+judgedError (judged.NoStream q) = NoError
+judgedError (judged.ReceiveClosed q place) = NoError
+judgedError (judged.NoSemantics q place) = Is (httpError noSemantics)
+judgedError (judged.TooLong q place) = NoError
+judgedError (judged.Delivered q place) = NoError

@@ -39,12 +39,24 @@ pub fn judged_error(answer: Judged) -> ErrorOf
     match answer {
         Judged::Refused(_) => ErrorOf::NoError,
         Judged::ShortFrame => ErrorOf::Is(HttpError::SHORT_FRAME),
-        Judged::QuarterTooLarge => ErrorOf::Is(HttpError::QUARTER_TOO_LARGE),
-        Judged::BeyondLimit => ErrorOf::Is(HttpError::BEYOND_LIMIT),
-        Judged::NoStream => ErrorOf::NoError,
-        Judged::ReceiveClosed => ErrorOf::NoError,
-        Judged::NoSemantics => ErrorOf::Is(HttpError::NO_SEMANTICS),
-        Judged::TooLong => ErrorOf::NoError,
-        Judged::Delivered(_) => ErrorOf::NoError,
+        Judged::QuarterTooLarge { quarter: _ } => ErrorOf::Is(HttpError::QUARTER_TOO_LARGE),
+        Judged::BeyondLimit { quarter: _ } => ErrorOf::Is(HttpError::BEYOND_LIMIT),
+        Judged::NoStream { quarter: _ } => ErrorOf::NoError,
+        Judged::ReceiveClosed {
+            quarter: _,
+            place: _,
+        } => ErrorOf::NoError,
+        Judged::NoSemantics {
+            quarter: _,
+            place: _,
+        } => ErrorOf::Is(HttpError::NO_SEMANTICS),
+        Judged::TooLong {
+            quarter: _,
+            place: _,
+        } => ErrorOf::NoError,
+        Judged::Delivered {
+            quarter: _,
+            place: _,
+        } => ErrorOf::NoError,
     }
 }

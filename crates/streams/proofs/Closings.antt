@@ -6,6 +6,7 @@ use mathlib.Core.Bool.{Bool, true, false, not, _||_, true≢false}
 use lib.Dec.{ltb}
 use lib.ListN.{length, getD, set, length-set}
 use lib.Seq.{getD-set-same, getD-set-other, set-getD}
+use borrow.Author.Tests.{lt-ltb}
 use Rattle.wire.specs.declared.units.StreamId.{StreamId}
 use Rattle.wire.specs.declared.units.Quarter.{Quarter}
 use Rattle.wire.specs.declared.units.QuarterOf.the-variants.{Is}
@@ -16,26 +17,29 @@ use Rattle.streams.specs.declared.record.Side.the-variants.{Receive, Sen
 use Rattle.streams.specs.declared.table.Found.the-variants.{Nothing}
 use Rattle.streams.specs.declared.table.Closing.{Closing}
 use Rattle.streams.specs.declared.table.Closing.the-variants.{Refused, Closed}
-use Rattle.streams.specs.Records.{blank, bothClosed, isBlank, isBadRecord, holds, withClosed, closedSide}
-use Rattle.streams.specs.Tables.{Table, isBad, find, openAt, closingOf, openFound, tableOpened, tableClosed}
-use Rattle.streams.specs.Claims.{ClosedTwice, FreedFoundAgain, FullThenFreed, StaysGood, OthersUntouched}
+use Rattle.streams.specs.Records.{blank, flag, isUsed, bothClosed, isBlank, isBadRecord, holds, withClosed, closedSide}
+use Rattle.streams.specs.Tables.{Table, anyBad, standsTwice, isBad, find, entryAt, lowestFree, openAt, openEntry, openingOf, closeEntry, closingOf, tableOpened, tableClosed}
+use Rattle.streams.specs.Claims.{ClosingDecided, ClosedTwice, ClosedAgain, FreedFoundAgain, FullThenFreed, StaysGood, OthersUntouched, TooManyRefused, NoneIsGood}
+use Rattle.streams.proofs.Flags.{or-none, used-bad, closed-exactly, closed-already}
 use Rattle.streams.proofs.Places.{First, isFree, find-first, lowest-first, first-at, none-is, find-nothing}
-use Rattle.streams.proofs.Decisions.{open-found, opening-is, opened-so, Closes, closes, closed-so}
+use Rattle.streams.proofs.Decisions.{opening-is, opened-so, Closes, closes, closed-so}
 use Rattle.streams.proofs.Goodness.{good-of, of-good, held, holds-so, blank-free, found-once, after-set, set-first, set-good}
-use Rattle.streams.proofs.Openings.{opened-length, opened-other, opening-good}
+use Rattle.streams.proofs.Openings.{opened-length, opened-other, lowest-none, opening-good}
 
 -- ---- a record with a side closed
 
 module _ (side : Side) (r : StreamRecord) where
   pub record Still : Type 0 where
-    pub used : withClosed side r .used ≡ r .used
+    pub used : isUsed (withClosed side r) ≡ isUsed r
     pub quarter : withClosed side r .quarter ≡ r .quarter
     pub twice : withClosed side (withClosed side r) ≡ withClosed side r
 
 still : (side : Side) (r : StreamRecord) → Still side r
-unfolding withClosed
-still Receive r = record { used = refl; quarter = refl; twice = refl }
-still Send r = record { used = refl; quarter = refl; twice = refl }
+still side r = let e = closed-exactly r .2 side in record { used = e .1; quarter = e .0; twice = again side }
+  where
+    again : (side : Side) → withClosed side (withClosed side r) ≡ withClosed side r
+    again Receive = closed-already (withClosed Receive r) .0 (closed-exactly r .0 .0)
+    again Send = closed-already (withClosed Send r) .1 (closed-exactly r .1 .0)
 
 freed-blank : (side : Side) (r : StreamRecord) → bothClosed (withClosed side r) ≡ true → closedSide side r ≡ blank
 unfolding closedSide
@@ -58,54 +62,57 @@ closed-holds q side r = becomes (λ x. holds q x ≡ true → holds q r ≡ true
     (λ e h. let s = still side r in let f = held q (withClosed side r) h in
     holds-so q r (sym (s .used) ∙ f .0) (ap (λ (x : Quarter). x .0) (sym (s .quarter)) ∙ f .1))
 
-used-quarter : (r : StreamRecord) → r .used ≡ true → isBadRecord r ≡ false → ltb largestQuarter (r .quarter .0) ≡ false
-unfolding isBadRecord bothClosed
-used-quarter r u e = go (ltb largestQuarter (r .quarter .0)) (rw u at e)
-  where
-    go : (b : Bool) → (b || bothClosed r) ≡ false → b ≡ false
-    go false x = refl
-    go true x = absurd (true≢false x)
+used-good : (r : StreamRecord) → isUsed r ≡ true → isBadRecord r ≡ false → (ltb largestQuarter (r .quarter .0) ≡ false) × (bothClosed r ≡ false)
+used-good r u e = or-none _ _ (sym (used-bad r u) ∙ e)
 
-closed-good : (side : Side) (r : StreamRecord) → r .used ≡ true → isBadRecord r ≡ false → isBadRecord (closedSide side r) ≡ false
-unfolding isBadRecord isBlank bothClosed
-closed-good side r u b = becomes (λ x. isBadRecord x ≡ false) side r refl (λ e. let s = still side r in rw (s .used ∙ u, s .quarter, used-quarter r u b) e)
+closed-good : (side : Side) (r : StreamRecord) → isUsed r ≡ true → isBadRecord r ≡ false → isBadRecord (closedSide side r) ≡ false
+unfolding isBadRecord isBlank flag
+closed-good side r u b = becomes (λ x. isBadRecord x ≡ false) side r refl
+    (λ e. let s = still side r in let l = ap (λ (x : Quarter). ltb largestQuarter (x .0)) (s .quarter) ∙ used-good r u b .0 in
+    used-bad (withClosed side r) (s .used ∙ u) ∙ (λ i. l i || e i))
 
-closed-again : (side : Side) (r : StreamRecord) → bothClosed (withClosed side r) ≡ false → closedSide side (closedSide side r) ≡ closedSide side r
-closed-again side r e =
+twice-closed : (side : Side) (r : StreamRecord) → bothClosed (withClosed side r) ≡ false → closedSide side (closedSide side r) ≡ closedSide side r
+twice-closed side r e =
     let t = still side r .twice in
     rw (kept-open side r e) (kept-open side (withClosed side r) (rw t e) ∙ t)
 
 -- ---- the table
 
-module _ (t : Table) (id : StreamId) (side : Side) (i : ℕ) (r : StreamRecord) (freed : Bool) (c : Closes t id side i r freed) where
+pub closing-decided : ClosingDecided
+unfolding closingOf closeEntry entryAt
+closing-decided t id side = (
+  λ b. rw b,
+  λ b. (λ n. rw (b, n), λ q r. (λ f. rw (b, r, f), λ i f. rw (b, r, f))),
+)
+
+module _ (t : Table) (id : StreamId) (side : Side) (i : ℕ) (freed : Bool) (c : Closes t id side i freed) where
   abbrev old : StreamRecord
   old = getD t i blank
 
   stood : First (holds (c .quarter .0)) t i
   stood = first-at (holds (c .quarter .0)) t i (sym (find-first (c .quarter .0) t) ∙ c .found)
 
-  closed-table-good : isBad (set t i r) ≡ false
+  closed-table-good : isBad (set t i (closedSide side old)) ≡ false
   closed-table-good =
       let g = good-of t (c .good) in
       let u = held (c .quarter .0) old (stood .here) .0 in
-      rw (sym (c .after)) (of-good _ (set-good t i (closedSide side old) (stood .within) g (closed-good side old u (g .each i))
-      (λ q h k m. g .once q k i m (closed-holds q side old h))))
+      of-good _ (set-good t i (closedSide side old) (stood .within) g (closed-good side old u (g .each i)) (λ q h k m. g .once q k i m (closed-holds q side old h)))
 
-closing-good : (t : Table) (id : StreamId) (side : Side) → isBad t ≡ false → isBad (tableClosed t (closingOf t id side)) ≡ false
+closing-good : (t : Table) (id : StreamId) (side : Side) → isBad t ≡ false → isBad (tableClosed t side (closingOf t id side)) ≡ false
 unfolding tableClosed
 closing-good t id side b = go (closingOf t id side) refl
   where
-    go : (a : Closing) → closingOf t id side ≡ a → isBad (tableClosed t a) ≡ false
+    go : (a : Closing) → closingOf t id side ≡ a → isBad (tableClosed t side a) ≡ false
     go (Refused r) e = b
-    go (Closed i r freed) e = closed-table-good t id side i r freed (closes t id side i r freed e)
+    go (Closed i freed) e = closed-table-good t id side i freed (closes t id side i freed e)
 
 pub stays-good : StaysGood
 stays-good t id b = (λ semantics. opening-good t id semantics b, λ side. closing-good t id side b)
 
-closed-length : (t : Table) (a : Closing) → length (tableClosed t a) ≡ length t
+closed-length : (t : Table) (side : Side) (a : Closing) → length (tableClosed t side a) ≡ length t
 unfolding tableClosed
-closed-length t (Refused r) = refl
-closed-length t (Closed i r freed) = length-set t i r
+closed-length t side (Refused r) = refl
+closed-length t side (Closed i freed) = length-set t i _
 
 pub others-untouched : OthersUntouched
 unfolding tableOpened tableClosed
@@ -113,61 +120,99 @@ others-untouched t = (
   opened-length t,
   closed-length t,
   opened-other t,
-  λ i j r freed n. getD-set-other t i j r blank n,
-  λ id semantics r. (refl, refl),
+  λ side i j freed n. getD-set-other t i j _ blank n,
+  λ id semantics side r. (refl, refl),
 )
 
-same : (t : Table) (id : StreamId) (side : Side) (i : ℕ) (r : StreamRecord) → Closes t id side i r false
-    → (closingOf (set t i r) id side ≡ Closed i r false) × (set (set t i r) i r ≡ set t i r)
-same t id side i r c =
+same : (t : Table) (id : StreamId) (side : Side) (i : ℕ) → Closes t id side i false
+    → let after : Table = set t i (closedSide side (getD t i blank)) in
+    (closingOf after id side ≡ Closed i false) × (set after i (closedSide side (getD after i blank)) ≡ after)
+same t id side i c =
     let old = getD t i blank in
-    let first = stood t id side i r false c in
+    let new = closedSide side old in
+    let after : Table = set t i new in
+    let first = stood t id side i false c in
     let s = still side old in
-    let now : getD (set t i r) i blank ≡ r = getD-set-same t i r blank (first .within) in
-    let kept : r ≡ withClosed side old = sym (c .after) ∙ kept-open side old (c .frees) in
+    let now : getD after i blank ≡ new = getD-set-same t i new blank (first .within) in
+    let kept : new ≡ withClosed side old = kept-open side old (c .frees) in
     let h = held (c .quarter .0) old (first .here) in
-    let holding : holds (c .quarter .0) r ≡ true = rw kept (holds-so (c .quarter .0) (withClosed side old) (s .used ∙ h .0) (ap (λ (x : Quarter). x .0) (s .quarter) ∙ h .1)) in
-    let good = closed-table-good t id side i r false c in (
-      closed-so (set t i r) id side i r false (record {
+    let holding : holds (c .quarter .0) new ≡ true = rw kept (holds-so (c .quarter .0) (withClosed side old) (s .used ∙ h .0) (ap (λ (x : Quarter). x .0) (s .quarter) ∙ h .1)) in
+    let good = closed-table-good t id side i false c in (
+      closed-so after id side i false (record {
         good = good;
         quarter = c .quarter;
         is = c .is;
-        found = found-once (c .quarter .0) i (set t i r) good (rw now holding);
-        after = rw (now, ← c .after) (closed-again side old (c .frees));
-        frees = rw (now, kept, s .twice) (c .frees);
+        found = found-once (c .quarter .0) i after good (rw now holding);
+        frees = ap (λ (r : StreamRecord). bothClosed (withClosed side r)) (now ∙ kept) ∙ ap bothClosed (s .twice) ∙ c .frees;
       }),
-      rw now at (set-getD (set t i r) i blank),
+      ap (set after i) (ap (closedSide side) now ∙ twice-closed side old (c .frees) ∙ sym now) ∙ set-getD after i blank,
     )
 
 pub closed-twice : ClosedTwice
 unfolding tableClosed
-closed-twice = (closed-again, λ t id side i r e. same t id side i r (closes t id side i r false e))
+closed-twice = (twice-closed, λ t id side i e. same t id side i (closes t id side i false e))
+
+pub closed-again : ClosedAgain
+unfolding tableClosed
+closed-again t id side i freed e s =
+    let c = closes t id side i freed e in
+    let old = getD t i blank in
+    let u = held (c .quarter .0) old (stood t id side i freed c .here) .0 in
+    let o : bothClosed (withClosed side old) ≡ false = ap bothClosed s ∙ used-good old u (good-of t (c .good) .each i) .1 in
+    (sym (c .frees) ∙ o, ap (set t i) (kept-open side old o ∙ s) ∙ set-getD t i blank)
+
+-- ---- a record freed
+
+module _ (t : Table) (id : StreamId) (side : Side) (i : ℕ) (c : Closes t id side i true) where
+  abbrev gone : StreamRecord
+  gone = closedSide side (getD t i blank)
+
+  gone-blank : gone ≡ blank
+  gone-blank = freed-blank side (getD t i blank) (c .frees)
+
+  gone-inside : i < length t
+  gone-inside = stood t id side i true c .within
+
+  gone-free : isFree gone ≡ true
+  unfolding flag
+  gone-free = ap isFree gone-blank
+
+  -- what is not in the table is not in it afterwards
+  still-away : (q : ℕ) → find q t ≡ Nothing → find q (set t i gone) ≡ Nothing
+  still-away q e = find-first q (set t i gone) ∙ none-is (holds q) (set t i gone)
+      (λ k m. after-set t i gone gone-inside k (λ f x. ap (holds q) (x ∙ gone-blank) ∙ blank-free q) (λ n x. ap (holds q) x ∙ find-nothing q t e k))
 
 pub freed-found-again : FreedFoundAgain
 unfolding tableClosed
-freed-found-again t id side i e below new q is away =
-    let c = closes t id side i blank true e in
-    let l = stood t id side i blank true c .within in
-    opened-so (set t i blank) new i (record {
-      good = closed-table-good t id side i blank true c;
-      quarter = q;
-      is = is;
-      absent = away;
-      lowest = lowest-first _ ∙ set-first t i blank l isFree refl (λ k m. ap not (below k m));
-    })
-
--- what is not in a table is not in it after a record was freed
-still-away : (q : ℕ) (t : Table) (i : ℕ) → i < length t → find q t ≡ Nothing → find q (set t i blank) ≡ Nothing
-still-away q t i l e = find-first q (set t i blank) ∙ none-is (holds q) (set t i blank)
-    (λ k m. after-set t i blank l k (λ f x. rw x (blank-free q)) (λ n x. rw x (find-nothing q t e k)))
+freed-found-again t id side i e =
+    let c = closes t id side i true e in
+    let l = gone-inside t id side i c in (
+      getD-set-same t i _ blank l ∙ gone-blank t id side i c,
+      λ below new q is away. opened-so (set t i (gone t id side i c)) new i (record {
+        good = closed-table-good t id side i true c;
+        quarter = q;
+        is = is;
+        absent = away;
+        lowest = lowest-first _ ∙ set-first t i _ l isFree (gone-free t id side i c) (λ k m. ap not (below k m));
+      }),
+    )
 
 pub full-then-freed : FullThenFreed
-unfolding tableClosed openAt openFound
+unfolding tableClosed openAt openEntry entryAt
 full-then-freed t new q b all is away = (
-  opening-is t new (Is q) is ∙ rw b (sym (open-found t q Nothing away) ∙ ap openAt (lowest-first t ∙ none-is isFree t (λ k l. ap not (all k l)))),
-  λ id side i r e.
-      let c = closes t id side i r true e in
-      let l = stood t id side i r true c .within in
-      let gone : r ≡ blank = sym (c .after) ∙ freed-blank side (getD t i blank) (c .frees) in
-      rw gone (freed-found-again t id side i (rw gone at e) (λ k m. all k (omega arith)) new q is (still-away (q .0) t i l away)),
+  opening-is t new (Is q) is ∙ rw (b, away, lowest-none t all),
+  λ id side i e.
+      let c = closes t id side i true e in
+      let l : i < length t = gone-inside t id side i c in
+      freed-found-again t id side i e .1 (λ k m. all k (omega arith)) new q is (still-away t id side i c (q .0) away),
 )
+
+-- ---- too many records, and none
+
+pub too-many-refused : TooManyRefused
+unfolding openingOf closingOf isBad
+too-many-refused t l id = (rw (lt-ltb 64 (length t) l), λ side. rw (lt-ltb 64 (length t) l))
+
+pub none-is-good : NoneIsGood
+unfolding openEntry openAt entryAt find lowestFree isBad anyBad standsTwice
+none-is-good id q e = opening-is _ id (Is q) e

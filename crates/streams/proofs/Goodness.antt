@@ -11,24 +11,18 @@ use borrow.Author.Tests.{eq-eqb, eqb-true, eqb-false, ltb-false, le-ltb}
 use Rattle.streams.specs.declared.record.StreamRecord.{StreamRecord}
 use Rattle.streams.specs.declared.table.Found.{Found}
 use Rattle.streams.specs.declared.table.Found.the-variants.{Nothing, At}
-use Rattle.streams.specs.Records.{blank, bothClosed, isBlank, isBadRecord, holds}
+use Rattle.streams.specs.Records.{blank, flag, isUsed, isBlank, isBadRecord, holds}
 use Rattle.streams.specs.Tables.{Table, anyBad, standsIn, standsTwice, isBad}
-use Rattle.streams.specs.Claims.{FoundOnce}
+use Rattle.streams.specs.Claims.{HoldsExactly, GoodExactly, FoundOnce}
+use Rattle.streams.proofs.Flags.{or-none, not-so}
 use Rattle.streams.proofs.Places.{first, find-first, stands-first, any-first, isAt, first-is, none-is, first-none}
 
+-- as `GoodTable`, by quarters
 pub record Good (t : Table) : Type 0 where
   pub short : length t ≤ 64
   pub each : (k : ℕ) → isBadRecord (getD t k blank) ≡ false
   -- a quarter has one place
   pub once : (q j k : ℕ) → holds q (getD t j blank) ≡ true → holds q (getD t k blank) ≡ true → j ≡ k
-
-or-none : (a b : Bool) → (a || b) ≡ false → (a ≡ false) × (b ≡ false)
-or-none false b e = (refl, e)
-or-none true b e = absurd (true≢false e)
-
-pub not-so : (b : Bool) → (b ≡ true → ⊥) → b ≡ false
-not-so true n = absurd (n refl)
-not-so false n = refl
 
 not-at : (f : Found) → isAt f ≡ false → f ≡ Nothing
 unfolding isAt
@@ -36,20 +30,20 @@ not-at Nothing e = refl
 not-at (At i) e = absurd (true≢false e)
 
 module _ (q : ℕ) where
-  pub held : (r : StreamRecord) → holds q r ≡ true → (r .used ≡ true) × (r .quarter .0 ≡ q)
+  pub held : (r : StreamRecord) → holds q r ≡ true → (isUsed r ≡ true) × (r .quarter .0 ≡ q)
   unfolding holds
-  held r h = go (r .used) refl h
+  held r h = go (isUsed r) refl h
     where
-      go : (u : Bool) → r .used ≡ u → (u && eqb (r .quarter .0) q) ≡ true → (r .used ≡ true) × (r .quarter .0 ≡ q)
+      go : (u : Bool) → isUsed r ≡ u → (u && eqb (r .quarter .0) q) ≡ true → (isUsed r ≡ true) × (r .quarter .0 ≡ q)
       go true x y = (x, eqb-true (r .quarter .0) q y)
       go false x y = absurd (false≢true y)
 
-  pub holds-so : (r : StreamRecord) → r .used ≡ true → r .quarter .0 ≡ q → holds q r ≡ true
+  pub holds-so : (r : StreamRecord) → isUsed r ≡ true → r .quarter .0 ≡ q → holds q r ≡ true
   unfolding holds
   holds-so r u e = rw (u, eq-eqb (r .quarter .0) q e)
 
   pub blank-free : holds q blank ≡ false
-  unfolding holds
+  unfolding holds flag
   blank-free = refl
 
   -- a quarter stands nowhere in a table
@@ -60,6 +54,9 @@ module _ (q : ℕ) where
   unfolding isAt
   stands-not t h = stands-first q t ∙ ap isAt (none-is (holds q) t (λ k l. h k))
 
+pub holds-exactly : HoldsExactly
+holds-exactly q r = (held q r, holds-so q r)
+
 -- past the end stands the blank
 held-inside : (q : ℕ) (t : Table) (i : ℕ) → holds q (getD t i blank) ≡ true → i < length t
 held-inside q [] i h = absurd (true≢false (sym h ∙ blank-free q))
@@ -68,20 +65,20 @@ held-inside q (r ∷ rs) (suc i) h = let l = held-inside q rs i h in omega arith
 
 -- ---- as the test of a table says it
 
-halves : (r : StreamRecord) (rs : Table) → standsTwice (r ∷ rs) ≡ false → ((r .used && standsIn (r .quarter .0) rs) ≡ false) × (standsTwice rs ≡ false)
+halves : (r : StreamRecord) (rs : Table) → standsTwice (r ∷ rs) ≡ false → ((isUsed r && standsIn (r .quarter .0) rs) ≡ false) × (standsTwice rs ≡ false)
 unfolding standsTwice
-halves r rs e = or-none (r .used && standsIn (r .quarter .0) rs) (standsTwice rs) e
+halves r rs e = or-none (isUsed r && standsIn (r .quarter .0) rs) (standsTwice rs) e
 
-clash : (r : StreamRecord) (rs : Table) (q k : ℕ) → (r .used && standsIn (r .quarter .0) rs) ≡ false → holds q r ≡ true → holds q (getD rs k blank) ≡ true → ⊥
+clash : (r : StreamRecord) (rs : Table) (q k : ℕ) → (isUsed r && standsIn (r .quarter .0) rs) ≡ false → holds q r ≡ true → holds q (getD rs k blank) ≡ true → ⊥
 clash r rs q k e a b =
     let h = held q r a in
     let s : standsIn q rs ≡ false = rw (h .0, h .1) at e in
     true≢false (sym b ∙ not-standing q rs s k)
 
-alone : (r : StreamRecord) (rs : Table) → ((q k : ℕ) → holds q r ≡ true → holds q (getD rs k blank) ≡ true → ⊥) → (r .used && standsIn (r .quarter .0) rs) ≡ false
-alone r rs n = go (r .used) refl
+alone : (r : StreamRecord) (rs : Table) → ((q k : ℕ) → holds q r ≡ true → holds q (getD rs k blank) ≡ true → ⊥) → (isUsed r && standsIn (r .quarter .0) rs) ≡ false
+alone r rs n = go (isUsed r) refl
   where
-    go : (u : Bool) → r .used ≡ u → (u && standsIn (r .quarter .0) rs) ≡ false
+    go : (u : Bool) → isUsed r ≡ u → (u && standsIn (r .quarter .0) rs) ≡ false
     go false x = refl
     go true x = stands-not (r .quarter .0) rs (λ k. not-so _ (n (r .quarter .0) k (holds-so (r .quarter .0) r x refl)))
 
@@ -104,7 +101,7 @@ of-once [] o = refl
 of-once (r ∷ rs) o = rw (alone r rs (λ q k a b. apart k (o q 0 (suc k) a b)), of-once rs (λ q j k a b. pred j k (o q (suc j) (suc k) a b)))
 
 pub good-of : (t : Table) → isBad t ≡ false → Good t
-unfolding isBad isBadRecord isBlank bothClosed
+unfolding isBad isBadRecord isBlank flag
 good-of t e =
     let a = or-none (ltb 64 (length t)) (anyBad t || standsTwice t) e in
     let b = or-none (anyBad t) (standsTwice t) (a .1) in
@@ -119,6 +116,22 @@ unfolding isBad isAt
 of-good t g =
     let a : anyBad t ≡ false = any-first t ∙ ap isAt (none-is isBadRecord t (λ k l. g .each k)) in
     rw (le-ltb 64 (length t) (g .short), a, of-once t (g .once))
+
+pub good-exactly : GoodExactly
+good-exactly t = (
+  λ e.
+      let g = good-of t e in
+      record {
+        short = g .short;
+        each = g .each;
+        once = λ j k a b s. g .once (getD t k blank .quarter .0) j k (holds-so _ (getD t j blank) a s) (holds-so _ (getD t k blank) b refl);
+      },
+  λ g. of-good t (record {
+    short = g .short;
+    each = g .each;
+    once = λ q j k a b. let x = held q _ a in let y = held q _ b in g .once j k (x .0) (y .0) (x .1 ∙ sym (y .1));
+  }),
+)
 
 pub found-once : FoundOnce
 found-once q i t e h =

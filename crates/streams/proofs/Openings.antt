@@ -1,7 +1,7 @@
 -- A table after a stream was opened. Assumes nothing.
 use mathlib.Core.Path.{_≡_, refl, sym, ap, _∙_}
-use Prim.Native.Nat.{ℕ}
-use mathlib.Core.Bool.{Bool, false, true≢false}
+use Prim.Native.Nat.{ℕ, _<_}
+use mathlib.Core.Bool.{Bool, true, false, not, _||_, true≢false}
 use lib.ListN.{length, getD, set, length-set}
 use lib.Seq.{getD-set-other}
 use borrow.Author.Tests.{le-ltb, not-true, not-false}
@@ -11,28 +11,23 @@ use Rattle.wire.specs.declared.units.QuarterOf.{QuarterOf}
 use Rattle.wire.specs.declared.units.QuarterOf.the-variants.{NotRequestStream, Is}
 use Rattle.wire.specs.Units.{largestQuarter, quarterOf}
 use Rattle.wire.proofs.Identifiers.{quarter-bounded}
+use Rattle.streams.specs.declared.table.Found.the-variants.{Nothing, At}
 use Rattle.streams.specs.declared.table.Opening.{Opening}
 use Rattle.streams.specs.declared.table.Opening.the-variants.{Refused, Opened}
-use Rattle.streams.specs.Records.{blank, opened, bothClosed, isBadRecord, holds}
-use Rattle.streams.specs.Tables.{Table, isBad, openingOf, tableOpened}
-use Rattle.streams.specs.Claims.{LowestTaken, OpenedFound}
-use Rattle.streams.proofs.Places.{First, isFree, find-first, lowest-first, first-at, find-nothing}
-use Rattle.streams.proofs.Decisions.{Opens, opens}
+use Rattle.streams.specs.Records.{blank, flag, isUsed, opened, bothClosed, isBadRecord, holds}
+use Rattle.streams.specs.Tables.{Table, isBad, entryAt, lowestFree, openAt, openEntry, openingOf, tableOpened}
+use Rattle.streams.specs.Claims.{UsedBelow, OpenedExactly, OpeningDecided, LowestTaken, OpenedFound}
+use Rattle.streams.proofs.Flags.{used-bad}
+use Rattle.streams.proofs.Places.{First, isFree, find-first, lowest-first, first-at, first-is, none-is, find-nothing}
+use Rattle.streams.proofs.Decisions.{ifRequest, opened-table, Opens, opens}
 use Rattle.streams.proofs.Goodness.{good-of, of-good, held, holds-so, set-first, set-good}
-
-abbrev stored : Table → Bool → ℕ → QuarterOf → Table
-stored t semantics i x = elim x [ NotRequestStream ↦ t | Is q ↦ set t i (opened q semantics) ]
-
-opened-table : (t : Table) (id : StreamId) (semantics : Bool) (q : Quarter) (i : ℕ) → quarterOf id ≡ Is q → tableOpened t id semantics (Opened i) ≡ set t i (opened q semantics)
-unfolding tableOpened
-opened-table t id semantics q i e = ap (stored t semantics i) e
 
 pub opened-length : (t : Table) (id : StreamId) (semantics : Bool) (a : Opening) → length (tableOpened t id semantics a) ≡ length t
 unfolding tableOpened
 opened-length t id semantics (Refused r) = refl
 opened-length t id semantics (Opened i) = go (quarterOf id)
   where
-    go : (x : QuarterOf) → length (stored t semantics i x) ≡ length t
+    go : (x : QuarterOf) → length (ifRequest t (λ q. set t i (opened q semantics)) x) ≡ length t
     go NotRequestStream = refl
     go (Is q) = length-set t i (opened q semantics)
 
@@ -40,13 +35,48 @@ pub opened-other : (t : Table) (id : StreamId) (semantics : Bool) (i j : ℕ) �
 unfolding tableOpened
 opened-other t id semantics i j n = go (quarterOf id)
   where
-    go : (x : QuarterOf) → getD (stored t semantics i x) j blank ≡ getD t j blank
+    go : (x : QuarterOf) → getD (ifRequest t (λ q. set t i (opened q semantics)) x) j blank ≡ getD t j blank
     go NotRequestStream = refl
     go (Is q) = getD-set-other t i j (opened q semantics) blank n
 
+pub opened-exactly : OpenedExactly
+unfolding flag
+opened-exactly q true = (refl, refl, refl, refl, refl, refl)
+opened-exactly q false = (refl, refl, refl, refl, refl, refl)
+
+opened-used : (q : Quarter) (semantics : Bool) → isUsed (opened q semantics) ≡ true
+opened-used q semantics = opened-exactly q semantics .1
+
+opened-open : (q : Quarter) (semantics : Bool) → bothClosed (opened q semantics) ≡ false
+unfolding bothClosed flag
+opened-open q true = refl
+opened-open q false = refl
+
 opened-good : (id : StreamId) (q : Quarter) (semantics : Bool) → quarterOf id ≡ Is q → isBadRecord (opened q semantics) ≡ false
-unfolding isBadRecord bothClosed
-opened-good id q semantics e = rw (le-ltb largestQuarter (q .0) (quarter-bounded id q e))
+opened-good id q semantics e =
+    used-bad (opened q semantics) (opened-used q semantics)
+    ∙ (λ i. le-ltb largestQuarter (q .0) (quarter-bounded id q e) i || opened-open q semantics i)
+
+-- ---- the lowest free place
+
+pub lowest-none : (t : Table) → UsedBelow t (length t) → lowestFree t ≡ Nothing
+lowest-none t u = lowest-first t ∙ none-is isFree t (λ k l. ap not (u k l))
+
+lowest-at : (t : Table) (i : ℕ) → isUsed (getD t i blank) ≡ false → i < length t → UsedBelow t i → lowestFree t ≡ At i
+lowest-at t i f l u = lowest-first t ∙ first-is isFree t i (record { within = l; here = ap not f; below = λ k m. ap not (u k m) })
+
+pub opening-decided : OpeningDecided
+unfolding openingOf openEntry openAt entryAt
+opening-decided t id = (
+  λ b. rw b,
+  λ b. (
+    λ n. rw (b, n),
+    λ q r. (
+      λ i f. rw (b, r, f),
+      λ f. (λ u. rw (b, r, f, lowest-none t u), λ i v l u. rw (b, r, f, lowest-at t i v l u)),
+    ),
+  ),
+)
 
 -- the place that was taken is the first free one
 taken : (t : Table) (id : StreamId) (i : ℕ) → Opens t id i → First isFree t i
@@ -55,14 +85,14 @@ taken t id i o = first-at isFree t i (sym (lowest-first t) ∙ o .lowest)
 pub lowest-taken : LowestTaken
 lowest-taken t id i e =
     let f = taken t id i (opens t id i e) in
-    (not-true (getD t i blank .used) (f .here), f .within, λ k l. not-false (getD t k blank .used) (f .below k l))
+    (not-true (isUsed (getD t i blank)) (f .here), f .within, λ k l. not-false (isUsed (getD t k blank)) (f .below k l))
 
 pub opened-found : OpenedFound
 opened-found t id semantics q i e is =
     let o = opens t id i e in
     let s : o .quarter ≡ q = cc (o .is) in
     let r = opened q semantics in
-    rw (opened-table t id semantics q i is, find-first) (set-first t i r (taken t id i o .within) (holds (q .0)) (holds-so (q .0) r refl refl)
+    rw (opened-table t id semantics q i is, find-first) (set-first t i r (taken t id i o .within) (holds (q .0)) (holds-so (q .0) r (opened-used q semantics) refl)
     (λ k m. find-nothing (q .0) t (rw s at (o .absent)) k))
 
 pub opening-good : (t : Table) (id : StreamId) (semantics : Bool) → isBad t ≡ false → isBad (tableOpened t id semantics (openingOf t id)) ≡ false

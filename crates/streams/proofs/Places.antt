@@ -1,18 +1,15 @@
 -- The first record that has a property: a search of a table is one, and so is a test of all its records. Assumes nothing.
 use mathlib.Core.Path.{_≡_, refl, sym, ap, subst, _∙_}
-use Prim.Native.Nat.{ℕ, zero, suc, _+_, _≤_, _<_}
-use native.Mathlib.Numerals.{add-one}
+use Prim.Native.Nat.{ℕ, zero, suc, _<_}
 use native.Mathlib.Omega.{arith}
 use mathlib.Core.Bool.{Bool, true, false, cond, not, _||_}
 use mathlib.Core.List.{[], _∷_}
-use lib.ListN.{length, getD, drop, drop-of-length-le}
-use lib.Seq.{drop-cons}
+use lib.ListN.{length, getD}
 use Rattle.streams.specs.declared.record.StreamRecord.{StreamRecord}
 use Rattle.streams.specs.declared.table.Found.{Found}
 use Rattle.streams.specs.declared.table.Found.the-variants.{Nothing, At}
-use Rattle.streams.specs.Records.{blank, isBadRecord, holds}
+use Rattle.streams.specs.Records.{blank, flag, isUsed, isBadRecord, holds}
 use Rattle.streams.specs.Tables.{Table, anyBad, standsIn, next, find, lowestFree}
-use Rattle.streams.specs.Search.{shift}
 use Rattle.streams.specs.Claims.{FindRight, FindNothing}
 
 unfoldable pub first : (StreamRecord → Bool) → Table → Found
@@ -27,7 +24,7 @@ find-first q [] = refl
 find-first q (r ∷ rs) = ap (λ (f : Found). cond (holds q r) (At 0) (next f)) (find-first q rs)
 
 abbrev pub isFree : StreamRecord → Bool
-isFree r = not (r .used)
+isFree r = not (isUsed r)
 
 turned : (u : Bool) (f : Found) → cond u (next f) (At 0) ≡ cond (not u) (At 0) (next f)
 turned true f = refl
@@ -36,7 +33,7 @@ turned false f = refl
 pub lowest-first : (t : Table) → lowestFree t ≡ first isFree t
 unfolding lowestFree first
 lowest-first [] = refl
-lowest-first (r ∷ rs) = turned (r .used) (lowestFree rs) ∙ ap (λ (f : Found). cond (isFree r) (At 0) (next f)) (lowest-first rs)
+lowest-first (r ∷ rs) = turned (isUsed r) (lowestFree rs) ∙ ap (λ (f : Found). cond (isFree r) (At 0) (next f)) (lowest-first rs)
 
 unfoldable pub isAt : Found → Bool
 isAt Nothing = false
@@ -124,35 +121,5 @@ pub find-right : FindRight
 find-right q i t e = let f = first-at (holds q) t i (sym (find-first q t) ∙ e) in (f .here, f .within)
 
 pub find-nothing : FindNothing
-unfolding holds
+unfolding holds flag
 find-nothing q t e = first-none (holds q) refl t (sym (find-first q t) ∙ e)
-
--- ---- from a place on
-
-next-one : (i : ℕ) (f : Found) → shift i (next f) ≡ shift (i + 1) f
-unfolding shift next
-next-one i Nothing = refl
-next-one i (At j) = let e : i + suc j ≡ i + 1 + j = omega arith in ap At e
-
-pub from-zero : (f : Found) → shift 0 f ≡ f
-unfolding shift
-from-zero Nothing = refl
-from-zero (At j) = let e : 0 + j ≡ j = omega arith in ap At e
-
-pub shifted-at : (i : ℕ) (f : Found) → isAt (shift i f) ≡ isAt f
-unfolding shift isAt
-shifted-at i Nothing = refl
-shifted-at i (At j) = refl
-
-module _ (p : StreamRecord → Bool) (t : Table) (i : ℕ) where
-  pub from-hit : i < length t → p (getD t i blank) ≡ true → shift i (first p (drop i t)) ≡ At i
-  unfolding shift first
-  from-hit h e = rw (drop-cons t i blank, e) (let z : i + 0 ≡ i = omega arith in ap At z)
-
-  pub from-miss : i < length t → p (getD t i blank) ≡ false → shift i (first p (drop i t)) ≡ shift (i + 1) (first p (drop (i + 1) t))
-  unfolding first
-  from-miss h e = rw (drop-cons t i blank, e, add-one i) (next-one i (first p (drop (suc i) t)) ∙ rw (add-one i))
-
-  pub from-end : length t ≤ i → shift i (first p (drop i t)) ≡ Nothing
-  unfolding shift first
-  from-end h = rw drop-of-length-le

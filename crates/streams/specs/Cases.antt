@@ -1,6 +1,6 @@
 -- Cases that fix how document 01 is read of stream tables. One statement carries them: `Pinned`, proved in proofs/Cases.antt.
 use mathlib.Core.Path.{_≡_}
-use Prim.Native.Nat.{ℕ, _-_, _^_}
+use Prim.Native.Nat.{ℕ, _+_, _-_, _^_}
 use mathlib.Core.Bool.{Bool, true, false}
 use mathlib.Core.List.{List, [], _∷_}
 use lib.ListN.{replicate}
@@ -15,27 +15,24 @@ use Rattle.streams.specs.declared.table.Opening.{Opening}
 use Rattle.streams.specs.declared.table.Opening.the-variants as opening
 use Rattle.streams.specs.declared.table.Closing.{Closing}
 use Rattle.streams.specs.declared.table.Closing.the-variants as closing
-use Rattle.streams.specs.Records.{blank}
+use Rattle.streams.specs.Records.{blank, closedSide}
 use Rattle.streams.specs.Tables.{Table, isBad, find, openingOf, closingOf, tableOpened, tableClosed}
-use Rattle.streams.specs.Rows.{isBadRows, openingRows, closingRows}
 
 abbrev stream : ℕ → StreamId
 stream n = record { 0 = n }
 
--- a record: used or free, its quarter, receive open, send open, semantics
-abbrev rec : Bool → ℕ → Bool → Bool → Bool → StreamRecord
-rec used q receive send semantics = record { used = used; quarter = record { 0 = q }; receive = receive; send = send; semantics = semantics }
+-- a record: its quarter and its flags
+abbrev rec : ℕ → ℕ → StreamRecord
+rec q flags = record { quarter = record { 0 = q }; flags = flags }
 
 -- one side closed after the other, each in the table that the one before left
 unfoldable pub closings : Table → StreamId → List Side → List Closing
 closings t id [] = []
-closings t id (side ∷ sides) = closingOf t id side ∷ closings (tableClosed t (closingOf t id side)) id sides
+closings t id (side ∷ sides) = closingOf t id side ∷ closings (tableClosed t side (closingOf t id side)) id sides
 
 pub data Pin : Type 0 where
   -- a table, and whether it is bad
   tables : Table → Bool → Pin
-  -- two rows, and whether they are bad
-  rows : List ℕ → List ℕ → Bool → Pin
   -- a table and a quarter, and where it stands
   finds : Table → ℕ → Found → Pin
   -- a table and a stream ID
@@ -43,19 +40,16 @@ pub data Pin : Type 0 where
   closes : Table → ℕ → List Side → List Closing → Pin
   -- a table, a stream ID and its semantics, and the table after opening
   leaves : Table → ℕ → Bool → Table → Pin
-  -- the same over two rows
-  opensRows : List ℕ → List ℕ → ℕ → Opening → Pin
-  closesRows : List ℕ → List ℕ → ℕ → Side → Closing → Pin
+  -- a record and a side, and the record with that side closed
+  closed : StreamRecord → Side → StreamRecord → Pin
 
 abbrev pub Holds : Pin → Type 0
 Holds (tables t b) = isBad t ≡ b
-Holds (rows qs ms b) = isBadRows qs ms ≡ b
 Holds (finds t q f) = find q t ≡ f
 Holds (opens t id o) = openingOf t (stream id) ≡ o
 Holds (closes t id sides cs) = closings t (stream id) sides ≡ cs
 Holds (leaves t id semantics t′) = tableOpened t (stream id) semantics (openingOf t (stream id)) ≡ t′
-Holds (opensRows qs ms id o) = openingRows qs ms (stream id) ≡ o
-Holds (closesRows qs ms id side c) = closingRows qs ms (stream id) side ≡ c
+Holds (closed r side r′) = closedSide side r ≡ r′
 
 abbrev pub All : List Pin → Type 0
 All [] = Unit {0}
@@ -63,90 +57,91 @@ All (p ∷ ps) = Holds p × All ps
 
 -- streams 0 and 4, both sides open
 abbrev full : Table
-full = rec true 0 true true true ∷ rec true 1 true true false ∷ []
+full = rec 0 15 ∷ rec 1 7 ∷ []
 
 abbrev pub onTables : List Pin
 onTables =
     tables [] false
     ∷ tables full false
     -- used with both sides closed
-    ∷ tables (rec true 1 false false true ∷ []) true
-    ∷ tables (rec true 1 false true true ∷ []) false
-    ∷ tables (rec true 1 true false true ∷ []) false
+    ∷ tables (rec 1 9 ∷ []) true
+    ∷ tables (rec 1 13 ∷ []) false
+    ∷ tables (rec 1 11 ∷ []) false
     -- free, and not the blank
-    ∷ tables (rec false 1 false false false ∷ []) true
-    ∷ tables (rec false 0 true false false ∷ []) true
-    ∷ tables (rec false 0 false true false ∷ []) true
-    ∷ tables (rec false 0 false false true ∷ []) true
+    ∷ tables (rec 1 0 ∷ []) true
+    ∷ tables (rec 0 2 ∷ []) true
+    ∷ tables (rec 0 4 ∷ []) true
+    ∷ tables (rec 0 8 ∷ []) true
     -- the largest quarter
-    ∷ tables (rec true (2 ^ 60 - 1) true true true ∷ []) false
-    ∷ tables (rec true (2 ^ 60) true true true ∷ []) true
+    ∷ tables (rec (2 ^ 60 - 1) 15 ∷ []) false
+    ∷ tables (rec (2 ^ 60) 15 ∷ []) true
     -- twice, whatever the sides
-    ∷ tables (rec true 1 true true true ∷ blank ∷ rec true 1 true true true ∷ []) true
-    ∷ tables (rec true 1 true false true ∷ rec true 1 false true false ∷ []) true
+    ∷ tables (rec 1 15 ∷ blank ∷ rec 1 15 ∷ []) true
+    ∷ tables (rec 1 11 ∷ rec 1 5 ∷ []) true
     -- the blank's quarter is stream 0's too
     ∷ tables (blank ∷ blank ∷ []) false
-    ∷ tables (blank ∷ rec true 0 true true true ∷ []) false
-    ∷ finds (blank ∷ rec true 0 true true true ∷ []) 0 (At 1)
+    ∷ tables (blank ∷ rec 0 15 ∷ []) false
+    ∷ finds (blank ∷ rec 0 15 ∷ []) 0 (At 1)
     ∷ finds (blank ∷ blank ∷ []) 0 Nothing
     -- lengths
     ∷ tables (replicate 64 blank) false
     ∷ tables (replicate 65 blank) true
-    ∷ rows [] (0 ∷ []) true
-    ∷ rows (0 ∷ []) [] true
-    ∷ rows (0 ∷ 7 ∷ []) (0 ∷ 3 ∷ []) false
-    ∷ rows (7 ∷ 7 ∷ []) (5 ∷ 3 ∷ []) true
     -- a bad record, and a quarter that stands twice, behind a good one; the first place is found even then
-    ∷ tables (blank ∷ rec true 1 false false true ∷ []) true
-    ∷ tables (blank ∷ rec true 1 true true true ∷ rec true 1 true true true ∷ []) true
-    ∷ finds (rec true 1 true true true ∷ rec true 1 true true true ∷ []) 1 (At 0)
-    -- marks 1, 2, 4 and 8; a higher bit says nothing
-    ∷ rows (0 ∷ []) (1 ∷ []) true
-    ∷ rows (0 ∷ []) (2 ∷ []) true
-    ∷ rows (0 ∷ []) (4 ∷ []) true
-    ∷ rows (0 ∷ []) (8 ∷ []) true
-    ∷ rows (0 ∷ []) (9 ∷ []) true
-    ∷ rows (0 ∷ []) (16 ∷ []) false
-    ∷ rows (0 ∷ []) (24 ∷ []) true
-    ∷ rows (0 ∷ []) (48 ∷ []) false
+    ∷ tables (blank ∷ rec 1 9 ∷ []) true
+    ∷ tables (blank ∷ rec 1 15 ∷ rec 1 15 ∷ []) true
+    ∷ finds (rec 1 15 ∷ rec 1 15 ∷ []) 1 (At 0)
+    -- a free record is the blank to the last bit; in a used one the bits above the four flags mean nothing
+    ∷ tables (rec 0 16 ∷ []) true
+    ∷ tables (rec 0 240 ∷ []) true
+    ∷ tables (rec 0 (2 ^ 63) ∷ []) true
+    ∷ tables (rec 0 1 ∷ []) true
+    ∷ tables (rec 1 (2 ^ 63 + 15) ∷ rec 2 29 ∷ []) false
+    -- quarters that are the same by their last byte alone
+    ∷ tables (rec 1 15 ∷ rec 257 15 ∷ []) false
+    ∷ finds (rec 1 15 ∷ []) 257 Nothing
     ∷ []
 
 abbrev pub onCalls : List Pin
 onCalls =
     opens (blank ∷ []) 0 (opening.Opened 0)
-    ∷ opens (rec true 1 true true true ∷ blank ∷ blank ∷ []) 0 (opening.Opened 1)
-    ∷ opens (blank ∷ rec true 0 true true true ∷ []) 0 (opening.Refused (refusal 9))
+    ∷ opens (rec 1 15 ∷ blank ∷ blank ∷ []) 0 (opening.Opened 1)
+    ∷ opens (blank ∷ rec 0 15 ∷ []) 0 (opening.Refused (refusal 9))
     -- both sides open, with the semantics that was named; a refused call leaves the table
-    ∷ leaves (rec true 0 true true true ∷ blank ∷ []) 4 false full
-    ∷ leaves (rec true 0 true true true ∷ blank ∷ []) 4 true (rec true 0 true true true ∷ rec true 1 true true true ∷ [])
+    ∷ leaves (rec 0 15 ∷ blank ∷ []) 4 false full
+    ∷ leaves (rec 0 15 ∷ blank ∷ []) 4 true (rec 0 15 ∷ rec 1 15 ∷ [])
     ∷ leaves full 8 true full
     -- no place at all
     ∷ opens [] 0 (opening.Refused (refusal 8))
     ∷ closes [] 0 (Send ∷ []) (closing.Refused (refusal 10) ∷ [])
-    -- 9 stands before 8
+    -- 9 is given though a place is free, and stands before 8
+    ∷ opens (rec 1 15 ∷ blank ∷ []) 4 (opening.Refused (refusal 9))
     ∷ opens full 4 (opening.Refused (refusal 9))
     ∷ opens full 8 (opening.Refused (refusal 8))
     -- 15 stands before 7, and 7 before the rest
-    ∷ opens (rec true 1 false false true ∷ []) 5 (opening.Refused (refusal 15))
+    ∷ opens (rec 1 9 ∷ []) 5 (opening.Refused (refusal 15))
     ∷ opens (replicate 65 blank) 0 (opening.Refused (refusal 15))
     ∷ opens full 5 (opening.Refused (refusal 7))
     ∷ opens full (2 ^ 62) (opening.Refused (refusal 7))
-    ∷ closes (rec true 1 false false true ∷ []) 5 (Send ∷ []) (closing.Refused (refusal 15) ∷ [])
+    ∷ closes (rec 1 9 ∷ []) 5 (Send ∷ []) (closing.Refused (refusal 15) ∷ [])
     ∷ closes (replicate 65 blank) 0 (Send ∷ []) (closing.Refused (refusal 15) ∷ [])
     ∷ closes full 5 (Send ∷ []) (closing.Refused (refusal 7) ∷ [])
-    ∷ opensRows (0 ∷ []) [] 5 (opening.Refused (refusal 15))
-    ∷ closesRows (0 ∷ []) [] 5 Send (closing.Refused (refusal 15))
+    -- 15 where a quarter stands twice
+    ∷ opens (rec 1 15 ∷ rec 1 15 ∷ blank ∷ []) 20 (opening.Refused (refusal 15))
+    ∷ closes (rec 1 15 ∷ rec 1 15 ∷ blank ∷ []) 4 (Send ∷ []) (closing.Refused (refusal 15) ∷ [])
     -- receive, receive, send, send: not freed, not freed, freed, not in the table
     ∷ closes full 4 (Receive ∷ Receive ∷ Send ∷ Send ∷ [])
-    (closing.Closed 1 (rec true 1 false true false) false ∷ closing.Closed 1 (rec true 1 false true false) false ∷ closing.Closed 1 blank true ∷ closing.Refused (refusal 10) ∷ [])
+    (closing.Closed 1 false ∷ closing.Closed 1 false ∷ closing.Closed 1 true ∷ closing.Refused (refusal 10) ∷ [])
     ∷ closes full 0 (Send ∷ Receive ∷ [])
-    (closing.Closed 0 (rec true 0 true false true) false ∷ closing.Closed 0 blank true ∷ [])
+    (closing.Closed 0 false ∷ closing.Closed 0 true ∷ [])
     -- the semantics stays, whichever side is closed
-    ∷ closes (rec true 1 true true true ∷ []) 4 (Receive ∷ []) (closing.Closed 0 (rec true 1 false true true) false ∷ [])
-    -- mark 2 is the receive side, 4 the send side
-    ∷ closesRows (1 ∷ []) (11 ∷ []) 4 Receive (closing.Closed 0 blank true)
-    ∷ closesRows (1 ∷ []) (13 ∷ []) 4 Send (closing.Closed 0 blank true)
-    ∷ closesRows (1 ∷ []) (15 ∷ []) 4 Send (closing.Closed 0 (rec true 1 true false true) false)
+    ∷ closed (rec 1 15) Receive (rec 1 13)
+    ∷ closed (rec 1 15) Send (rec 1 11)
+    -- bits that mean nothing stay at a closing, and are lost with the blank; closing a closed side changes no bit
+    ∷ closed (rec 1 31) Receive (rec 1 29)
+    ∷ closed (rec 1 29) Receive (rec 1 29)
+    ∷ closed (rec 1 29) Send blank
+    ∷ closed (rec 1 (2 ^ 63 + 15)) Send (rec 1 (2 ^ 63 + 11))
+    ∷ closed (rec 1 27) Receive blank
     ∷ []
 
 abbrev pub Pinned : Type 0

@@ -1,40 +1,85 @@
 -- What holds of the definitions: each claim is a type here, and is proved in proofs/ under its name in lower case with dashes.
 use mathlib.Core.Path.{_≡_}
-use Prim.Native.Nat.{ℕ, _<_}
+use Prim.Native.Nat.{ℕ, _/_, _<_, _≤_}
 use mathlib.Core.Bool.{Bool, true, false}
-use mathlib.Core.List.{List}
-use lib.ListN.{length, getD, set}
+use mathlib.Core.List.{[]}
+use lib.ListN.{length, getD}
 use Rattle.refusals.specs.declared.Refusal.{Refusal}
-use Rattle.refusals.specs.Numbers.{noFreePlace}
+use Rattle.refusals.specs.Numbers.{badTable, notARequestStream, alreadyInTable, noFreePlace, notInTable}
 use Rattle.wire.specs.declared.units.StreamId.{StreamId}
 use Rattle.wire.specs.declared.units.Quarter.{Quarter}
-use Rattle.wire.specs.declared.units.QuarterOf.the-variants.{Is}
-use Rattle.wire.specs.Units.{quarterOf}
+use Rattle.wire.specs.declared.units.QuarterOf.the-variants.{NotRequestStream, Is}
+use Rattle.wire.specs.Units.{isRequest, largestQuarter, quarterOf}
 use Rattle.streams.specs.declared.record.StreamRecord.{StreamRecord}
 use Rattle.streams.specs.declared.record.Side.{Side}
+use Rattle.streams.specs.declared.record.Side.the-variants.{Receive, Send}
 use Rattle.streams.specs.declared.table.Found.the-variants.{Nothing, At}
 use Rattle.streams.specs.declared.table.Opening.{Opening}
 use Rattle.streams.specs.declared.table.Opening.the-variants as opening
+use Rattle.streams.specs.declared.table.Standing.the-variants as standing
 use Rattle.streams.specs.declared.table.Closing.{Closing}
 use Rattle.streams.specs.declared.table.Closing.the-variants as closing
-use Rattle.streams.specs.Records.{blank, bothClosed, holds, withClosed, closedSide}
-use Rattle.streams.specs.Tables.{Table, isBad, find, lowestFree, openingOf, closingOf, sought, recordFound, openingBy, closingBy, tableOpened, tableClosed}
-use Rattle.streams.specs.Rows.{recordOf, markOf, tableOf}
+use Rattle.streams.specs.Records.{blank, opened, isUsed, receiveOpen, sendOpen, hasSemantics, bothClosed, isBadRecord, holds, withClosed, closedSide}
+use Rattle.streams.specs.Tables.{Table, isBad, find, openingOf, closingOf, standingOf, tableOpened, tableClosed}
 
 -- every place below n is used
 abbrev pub UsedBelow : Table → ℕ → Type 0
-UsedBelow t n = (k : ℕ) → k < n → getD t k blank .used ≡ true
+UsedBelow t n = (k : ℕ) → k < n → isUsed (getD t k blank) ≡ true
 
--- ---- looking a table up (proofs/Reading.antt, proofs/Places.antt, proofs/Goodness.antt)
+-- ---- records (proofs/Flags.antt, proofs/Goodness.antt, proofs/Openings.antt)
 
--- a record is its quarter and its marks
-abbrev pub MarksReadBack : Type 0
-MarksReadBack = (r : StreamRecord) → recordOf (r .quarter .0) (markOf r) ≡ r
+-- a free record is good exactly if it is the fixed blank, to the last bit
+abbrev pub FreeGood : Type 0
+FreeGood =
+    (r : StreamRecord) → isUsed r ≡ false
+    → (isBadRecord r ≡ false → r ≡ blank) × (r ≡ blank → isBadRecord r ≡ false)
 
--- a record that is stored in both rows is stored in the table, and nowhere else
-abbrev pub RowsStored : Type 0
-RowsStored =
-    (qs ms : List ℕ) (i : ℕ) (r : StreamRecord) → tableOf (set qs i (r .quarter .0)) (set ms i (markOf r)) ≡ set (tableOf qs ms) i r
+-- a used one exactly if its quarter is one and a side is open, whatever bits stand above the four flags
+abbrev pub UsedGood : Type 0
+UsedGood =
+    (r : StreamRecord) → isUsed r ≡ true
+    → (isBadRecord r ≡ false → (r .quarter .0 ≤ largestQuarter) × ((receiveOpen r ≡ false) × (sendOpen r ≡ false) → ⊥))
+    × (r .quarter .0 ≤ largestQuarter → ((receiveOpen r ≡ false) × (sendOpen r ≡ false) → ⊥) → isBadRecord r ≡ false)
+
+-- a record has a quarter exactly if it is used and that is its quarter
+abbrev pub HoldsExactly : Type 0
+HoldsExactly =
+    (q : ℕ) (r : StreamRecord)
+    → (holds q r ≡ true → (isUsed r ≡ true) × (r .quarter .0 ≡ q)) × (isUsed r ≡ true → r .quarter .0 ≡ q → holds q r ≡ true)
+
+-- the record of a stream that was just opened, to the last bit
+abbrev pub OpenedExactly : Type 0
+OpenedExactly =
+    (q : Quarter) (semantics : Bool)
+    → let r = opened q semantics in
+    (r .quarter ≡ q) × (isUsed r ≡ true) × (receiveOpen r ≡ true) × (sendOpen r ≡ true) × (hasSemantics r ≡ semantics) × (r .flags / 16 ≡ 0)
+
+-- closing a side closes it and changes nothing else: not the quarter, no other flag, no bit that means nothing
+abbrev pub ClosedExactly : Type 0
+ClosedExactly =
+    (r : StreamRecord)
+    → ((receiveOpen (withClosed Receive r) ≡ false) × (sendOpen (withClosed Receive r) ≡ sendOpen r))
+    × ((sendOpen (withClosed Send r) ≡ false) × (receiveOpen (withClosed Send r) ≡ receiveOpen r))
+    × ((side : Side)
+    → (withClosed side r .quarter ≡ r .quarter) × (isUsed (withClosed side r) ≡ isUsed r) × (hasSemantics (withClosed side r) ≡ hasSemantics r)
+    × (withClosed side r .flags / 16 ≡ r .flags / 16))
+
+-- closing a side that is closed already changes no bit
+abbrev pub ClosedAlready : Type 0
+ClosedAlready = (r : StreamRecord) → (receiveOpen r ≡ false → withClosed Receive r ≡ r) × (sendOpen r ≡ false → withClosed Send r ≡ r)
+
+-- ---- good tables (proofs/Goodness.antt)
+
+-- document 01's: at most 64 records, none bad, and no quarter of a used one stands twice
+pub record GoodTable (t : Table) : Type 0 where
+  pub short : length t ≤ 64
+  pub each : (k : ℕ) → isBadRecord (getD t k blank) ≡ false
+  pub once : (j k : ℕ) → isUsed (getD t j blank) ≡ true → isUsed (getD t k blank) ≡ true → getD t j blank .quarter .0 ≡ getD t k blank .quarter .0 → j ≡ k
+
+abbrev pub GoodExactly : Type 0
+GoodExactly = (t : Table) → (isBad t ≡ false → GoodTable t) × (GoodTable t → isBad t ≡ false)
+
+-- ---- looking a table up (proofs/Places.antt, proofs/Goodness.antt)
 
 -- a place that was found is one of the table, and has the quarter
 abbrev pub FindRight : Type 0
@@ -48,21 +93,24 @@ FindNothing = (q : ℕ) (t : Table) → find q t ≡ Nothing → (k : ℕ) → h
 abbrev pub FoundOnce : Type 0
 FoundOnce = (q i : ℕ) (t : Table) → isBad t ≡ false → holds q (getD t i blank) ≡ true → find q t ≡ At i
 
--- ---- deciding by what was found (proofs/Decisions.antt)
-
-abbrev pub OpenedBy : Type 0
-OpenedBy = (t : Table) (id : StreamId) → openingBy (isBad t) id (find (sought id) t) (lowestFree t) ≡ openingOf t id
-
-abbrev pub ClosedBy : Type 0
-ClosedBy =
-    (t : Table) (id : StreamId) (side : Side)
-    → closingBy (isBad t) id side (find (sought id) t) (recordFound t (find (sought id) t)) ≡ closingOf t id side
-
 -- ---- opening (proofs/Openings.antt)
+
+-- 15, 7, 9, 8 and the place, each exactly on its condition: the premises exclude each other and leave nothing out
+abbrev pub OpeningDecided : Type 0
+OpeningDecided =
+    (t : Table) (id : StreamId)
+    → (isBad t ≡ true → openingOf t id ≡ opening.Refused badTable)
+    × (isBad t ≡ false
+    → (quarterOf id ≡ NotRequestStream → openingOf t id ≡ opening.Refused notARequestStream)
+    × ((q : Quarter) → quarterOf id ≡ Is q
+    → ((i : ℕ) → find (q .0) t ≡ At i → openingOf t id ≡ opening.Refused alreadyInTable)
+    × (find (q .0) t ≡ Nothing
+    → (UsedBelow t (length t) → openingOf t id ≡ opening.Refused noFreePlace)
+    × ((i : ℕ) → isUsed (getD t i blank) ≡ false → i < length t → UsedBelow t i → openingOf t id ≡ opening.Opened i))))
 
 -- the lowest free place
 abbrev pub LowestTaken : Type 0
-LowestTaken = (t : Table) (id : StreamId) (i : ℕ) → openingOf t id ≡ opening.Opened i → (getD t i blank .used ≡ false) × (i < length t) × UsedBelow t i
+LowestTaken = (t : Table) (id : StreamId) (i : ℕ) → openingOf t id ≡ opening.Opened i → (isUsed (getD t i blank) ≡ false) × (i < length t) × UsedBelow t i
 
 -- the stream is found afterwards, at the place that was answered
 abbrev pub OpenedFound : Type 0
@@ -72,28 +120,46 @@ OpenedFound =
 
 -- ---- closing (proofs/Closings.antt)
 
+-- 15, 7, 10 and the place, each exactly on its condition
+abbrev pub ClosingDecided : Type 0
+ClosingDecided =
+    (t : Table) (id : StreamId) (side : Side)
+    → (isBad t ≡ true → closingOf t id side ≡ closing.Refused badTable)
+    × (isBad t ≡ false
+    → (quarterOf id ≡ NotRequestStream → closingOf t id side ≡ closing.Refused notARequestStream)
+    × ((q : Quarter) → quarterOf id ≡ Is q
+    → (find (q .0) t ≡ Nothing → closingOf t id side ≡ closing.Refused notInTable)
+    × ((i : ℕ) → find (q .0) t ≡ At i → closingOf t id side ≡ closing.Closed i (bothClosed (withClosed side (getD t i blank))))))
+
 -- a side that is closed twice while the other is open: the same record, the same answer, the same table
 abbrev pub ClosedTwice : Type 0
 ClosedTwice =
     ((side : Side) (r : StreamRecord) → bothClosed (withClosed side r) ≡ false → closedSide side (closedSide side r) ≡ closedSide side r)
-    × ((t : Table) (id : StreamId) (side : Side) (i : ℕ) (r : StreamRecord) → closingOf t id side ≡ closing.Closed i r false
-    → let after : Table = tableClosed t (closing.Closed i r false) in
-    (closingOf after id side ≡ closing.Closed i r false) × (tableClosed after (closing.Closed i r false) ≡ after))
+    × ((t : Table) (id : StreamId) (side : Side) (i : ℕ) → closingOf t id side ≡ closing.Closed i false
+    → let after : Table = tableClosed t side (closing.Closed i false) in
+    (closingOf after id side ≡ closing.Closed i false) × (tableClosed after side (closing.Closed i false) ≡ after))
 
--- a place that became the blank is taken again: by any stream that is new then, where all lower places are used
+-- a side that is closed already: nothing is freed, and the table stays as it is
+abbrev pub ClosedAgain : Type 0
+ClosedAgain =
+    (t : Table) (id : StreamId) (side : Side) (i : ℕ) (freed : Bool) → closingOf t id side ≡ closing.Closed i freed → withClosed side (getD t i blank) ≡ getD t i blank
+    → (freed ≡ false) × (tableClosed t side (closing.Closed i freed) ≡ t)
+
+-- a place that is freed becomes the blank, and is taken again: by any stream that is new then, where all lower places are used
 abbrev pub FreedFoundAgain : Type 0
 FreedFoundAgain =
-    (t : Table) (id : StreamId) (side : Side) (i : ℕ) → closingOf t id side ≡ closing.Closed i blank true → UsedBelow t i
-    → let after : Table = tableClosed t (closing.Closed i blank true) in
-    (new : StreamId) (q : Quarter) → quarterOf new ≡ Is q → find (q .0) after ≡ Nothing → openingOf after new ≡ opening.Opened i
+    (t : Table) (id : StreamId) (side : Side) (i : ℕ) → closingOf t id side ≡ closing.Closed i true
+    → let after : Table = tableClosed t side (closing.Closed i true) in
+    (getD after i blank ≡ blank)
+    × (UsedBelow t i → (new : StreamId) (q : Quarter) → quarterOf new ≡ Is q → find (q .0) after ≡ Nothing → openingOf after new ≡ opening.Opened i)
 
 -- a full table has no place for a new stream, and has one as soon as a stream is freed
 abbrev pub FullThenFreed : Type 0
 FullThenFreed =
     (t : Table) (new : StreamId) (q : Quarter) → isBad t ≡ false → UsedBelow t (length t) → quarterOf new ≡ Is q → find (q .0) t ≡ Nothing
     → (openingOf t new ≡ opening.Refused noFreePlace)
-    × ((id : StreamId) (side : Side) (i : ℕ) (r : StreamRecord) → closingOf t id side ≡ closing.Closed i r true
-    → openingOf (tableClosed t (closing.Closed i r true)) new ≡ opening.Opened i)
+    × ((id : StreamId) (side : Side) (i : ℕ) → closingOf t id side ≡ closing.Closed i true
+    → openingOf (tableClosed t side (closing.Closed i true)) new ≡ opening.Opened i)
 
 -- ---- the table afterwards (proofs/Closings.antt)
 
@@ -101,14 +167,42 @@ abbrev pub StaysGood : Type 0
 StaysGood =
     (t : Table) (id : StreamId) → isBad t ≡ false
     → ((semantics : Bool) → isBad (tableOpened t id semantics (openingOf t id)) ≡ false)
-    × ((side : Side) → isBad (tableClosed t (closingOf t id side)) ≡ false)
+    × ((side : Side) → isBad (tableClosed t side (closingOf t id side)) ≡ false)
 
 -- one record changes at most, at the place that was answered; none if the call was refused
 abbrev pub OthersUntouched : Type 0
 OthersUntouched =
     (t : Table)
     → ((id : StreamId) (semantics : Bool) (answer : Opening) → length (tableOpened t id semantics answer) ≡ length t)
-    × ((answer : Closing) → length (tableClosed t answer) ≡ length t)
+    × ((side : Side) (answer : Closing) → length (tableClosed t side answer) ≡ length t)
     × ((id : StreamId) (semantics : Bool) (i j : ℕ) → (j ≡ i → ⊥) → getD (tableOpened t id semantics (opening.Opened i)) j blank ≡ getD t j blank)
-    × ((i j : ℕ) (r : StreamRecord) (freed : Bool) → (j ≡ i → ⊥) → getD (tableClosed t (closing.Closed i r freed)) j blank ≡ getD t j blank)
-    × ((id : StreamId) (semantics : Bool) (r : Refusal) → (tableOpened t id semantics (opening.Refused r) ≡ t) × (tableClosed t (closing.Refused r) ≡ t))
+    × ((side : Side) (i j : ℕ) (freed : Bool) → (j ≡ i → ⊥) → getD (tableClosed t side (closing.Closed i freed)) j blank ≡ getD t j blank)
+    × ((id : StreamId) (semantics : Bool) (side : Side) (r : Refusal) → (tableOpened t id semantics (opening.Refused r) ≡ t) × (tableClosed t side (closing.Refused r) ≡ t))
+
+-- more than 64 records, whatever they hold, are refused 15; no records are a good table with no free place
+abbrev pub TooManyRefused : Type 0
+TooManyRefused =
+    (t : Table) → 64 < length t → (id : StreamId)
+    → (openingOf t id ≡ opening.Refused badTable) × ((side : Side) → closingOf t id side ≡ closing.Refused badTable)
+
+abbrev pub NoneIsGood : Type 0
+NoneIsGood = (id : StreamId) (q : Quarter) → quarterOf id ≡ Is q → openingOf [] id ≡ opening.Refused noFreePlace
+
+-- 15, 7, 10 and the place, each exactly on its condition
+abbrev pub StandingDecided : Type 0
+StandingDecided =
+    (t : Table) (id : StreamId)
+    → (isBad t ≡ true → standingOf t id ≡ standing.Refused badTable)
+    × (isBad t ≡ false
+    → (quarterOf id ≡ NotRequestStream → standingOf t id ≡ standing.Refused notARequestStream)
+    × ((q : Quarter) → quarterOf id ≡ Is q
+    → (find (q .0) t ≡ Nothing → standingOf t id ≡ standing.Refused notInTable)
+    × ((i : ℕ) → find (q .0) t ≡ At i → standingOf t id ≡ standing.At i)))
+
+-- a stream stands at a place exactly if the table is good and the record there is a used one of its quarter
+abbrev pub StandsExactly : Type 0
+StandsExactly =
+    (t : Table) (id : StreamId) (i : ℕ)
+    → (standingOf t id ≡ standing.At i
+    → (isBad t ≡ false) × (isRequest (id .0) ≡ true) × (i < length t) × (holds (id .0 / 4) (getD t i blank) ≡ true))
+    × (isBad t ≡ false → isRequest (id .0) ≡ true → holds (id .0 / 4) (getD t i blank) ≡ true → standingOf t id ≡ standing.At i)

@@ -6,7 +6,6 @@ use lib.ListN.{length, getD, set}
 use lib.Dec.{ltb}
 use Rattle.refusals.specs.Numbers.{notARequestStream, noFreePlace, alreadyInTable, notInTable, badTable}
 use Rattle.wire.specs.declared.units.StreamId.{StreamId}
-use Rattle.wire.specs.declared.units.Quarter.{Quarter}
 use Rattle.wire.specs.declared.units.QuarterOf.{QuarterOf}
 use Rattle.wire.specs.declared.units.QuarterOf.the-variants.{NotRequestStream, Is}
 use Rattle.wire.specs.Units.{quarterOf}
@@ -14,11 +13,17 @@ use Rattle.streams.specs.declared.record.StreamRecord.{StreamRecord}
 use Rattle.streams.specs.declared.record.Side.{Side}
 use Rattle.streams.specs.declared.table.Found.{Found}
 use Rattle.streams.specs.declared.table.Found.the-variants.{Nothing, At}
+use Rattle.streams.specs.declared.table.Entry.{Entry}
+use Rattle.streams.specs.declared.table.Entry.the-variants.{Absent, Present}
+use Rattle.streams.specs.declared.table.Lookup.{Lookup}
+use Rattle.streams.specs.declared.table.Lookup.the-variants.{BadTable, Good}
 use Rattle.streams.specs.declared.table.Opening.{Opening}
 use Rattle.streams.specs.declared.table.Opening.the-variants as opening
+use Rattle.streams.specs.declared.table.Standing.{Standing}
+use Rattle.streams.specs.declared.table.Standing.the-variants as standing
 use Rattle.streams.specs.declared.table.Closing.{Closing}
 use Rattle.streams.specs.declared.table.Closing.the-variants as closing
-use Rattle.streams.specs.Records.{blank, opened, bothClosed, isBadRecord, holds, withClosed, closedSide}
+use Rattle.streams.specs.Records.{blank, opened, isUsed, bothClosed, isBadRecord, holds, withClosed, closedSide}
 
 abbrev pub Table : Type 0
 Table = List StreamRecord
@@ -36,7 +41,7 @@ standsIn q (r ∷ rs) = holds q r || standsIn q rs
 -- a used quarter stands twice
 unfoldable pub standsTwice : Table → Bool
 standsTwice [] = false
-standsTwice (r ∷ rs) = (r .used && standsIn (r .quarter .0) rs) || standsTwice rs
+standsTwice (r ∷ rs) = (isUsed r && standsIn (r .quarter .0) rs) || standsTwice rs
 
 unfoldable pub isBad : Table → Bool
 isBad t = ltb 64 (length t) || (anyBad t || standsTwice t)
@@ -52,46 +57,19 @@ unfoldable pub find : ℕ → Table → Found
 find q [] = Nothing
 find q (r ∷ rs) = cond (holds q r) (At 0) (next (find q rs))
 
--- the lowest free place
-unfoldable pub lowestFree : Table → Found
-lowestFree [] = Nothing
-lowestFree (r ∷ rs) = cond (r .used) (next (lowestFree rs)) (At 0)
+-- the place and the record there
+unfoldable pub entryAt : Table → Found → Entry
+entryAt t Nothing = Absent
+entryAt t (At i) = Present i (getD t i blank)
 
--- ---- opening: 15, 7, 9, 8
+abbrev pub entryOf : ℕ → Table → Entry
+entryOf q t = entryAt t (find q t)
 
-unfoldable pub openAt : Found → Opening
-openAt Nothing = opening.Refused noFreePlace
-openAt (At i) = opening.Opened i
+unfoldable pub lookupOf : ℕ → Table → Lookup
+lookupOf q t = cond (isBad t) BadTable (Good (entryOf q t))
 
-unfoldable pub openQuarter : Table → Quarter → Opening
-openQuarter t q = elim (find (q .0) t) [ At i ↦ opening.Refused alreadyInTable | Nothing ↦ openAt (lowestFree t) ]
-
-unfoldable pub openingOf : Table → StreamId → Opening
-openingOf t id =
-    cond (isBad t)
-    (opening.Refused badTable)
-    (elim (quarterOf id) [ NotRequestStream ↦ opening.Refused notARequestStream | Is q ↦ openQuarter t q ])
-
--- ---- closing a side: 15, 7, 10
-
--- the place, the record that is to stand there, and whether the place became the blank
-unfoldable pub closeAt : Table → Side → ℕ → Closing
-closeAt t side i =
-    let r = getD t i blank in
-    closing.Closed i (closedSide side r) (bothClosed (withClosed side r))
-
-unfoldable pub closeQuarter : Table → Side → Quarter → Closing
-closeQuarter t side q = elim (find (q .0) t) [ At i ↦ closeAt t side i | Nothing ↦ closing.Refused notInTable ]
-
-unfoldable pub closingOf : Table → StreamId → Side → Closing
-closingOf t id side =
-    cond (isBad t)
-    (closing.Refused badTable)
-    (elim (quarterOf id) [ NotRequestStream ↦ closing.Refused notARequestStream | Is q ↦ closeQuarter t side q ])
-
--- ---- the same by what was found: whether the table is bad, where the quarter stands, the record there, the lowest free place
-
--- the quarter that is looked for; no answer depends on it where the ID is no request stream's, and 0 stands there
+-- the quarter that a stream ID is looked for by. Where the ID is no request stream's it is 0, and every call that looks for it answers 7 then (15 of
+-- a bad table), whatever is found
 unfoldable pub soughtIn : QuarterOf → ℕ
 soughtIn NotRequestStream = 0
 soughtIn (Is q) = q .0
@@ -99,33 +77,51 @@ soughtIn (Is q) = q .0
 abbrev pub sought : StreamId → ℕ
 sought id = soughtIn (quarterOf id)
 
--- the place whose record is read; no answer depends on it where nothing was found, and 0 stands there
-unfoldable pub placeOf : Found → ℕ
-placeOf Nothing = 0
-placeOf (At i) = i
+-- the lowest free place
+unfoldable pub lowestFree : Table → Found
+lowestFree [] = Nothing
+lowestFree (r ∷ rs) = cond (isUsed r) (next (lowestFree rs)) (At 0)
 
-abbrev pub recordFound : Table → Found → StreamRecord
-recordFound t found = getD t (placeOf found) blank
+-- ---- opening: 15, 7, 9, 8
 
-unfoldable pub openFound : Found → Found → Opening
-openFound (At i) free = opening.Refused alreadyInTable
-openFound Nothing free = openAt free
+unfoldable pub openAt : Found → Opening
+openAt Nothing = opening.Refused noFreePlace
+openAt (At i) = opening.Opened i
 
-unfoldable pub openingBy : Bool → StreamId → Found → Found → Opening
-openingBy bad id found free =
-    cond bad
+unfoldable pub openEntry : Entry → Found → Opening
+openEntry (Present i r) free = opening.Refused alreadyInTable
+openEntry Absent free = openAt free
+
+unfoldable pub openingOf : Table → StreamId → Opening
+openingOf t id =
+    cond (isBad t)
     (opening.Refused badTable)
-    (elim (quarterOf id) [ NotRequestStream ↦ opening.Refused notARequestStream | Is q ↦ openFound found free ])
+    (elim (quarterOf id) [ NotRequestStream ↦ opening.Refused notARequestStream | Is q ↦ openEntry (entryOf (q .0) t) (lowestFree t) ])
 
-unfoldable pub closeFound : Side → Found → StreamRecord → Closing
-closeFound side Nothing r = closing.Refused notInTable
-closeFound side (At i) r = closing.Closed i (closedSide side r) (bothClosed (withClosed side r))
+-- ---- closing a side: 15, 7, 10
 
-unfoldable pub closingBy : Bool → StreamId → Side → Found → StreamRecord → Closing
-closingBy bad id side found r =
-    cond bad
+-- the place, and whether it becomes the blank
+unfoldable pub closeEntry : Side → Entry → Closing
+closeEntry side Absent = closing.Refused notInTable
+closeEntry side (Present i r) = closing.Closed i (bothClosed (withClosed side r))
+
+unfoldable pub closingOf : Table → StreamId → Side → Closing
+closingOf t id side =
+    cond (isBad t)
     (closing.Refused badTable)
-    (elim (quarterOf id) [ NotRequestStream ↦ closing.Refused notARequestStream | Is q ↦ closeFound side found r ])
+    (elim (quarterOf id) [ NotRequestStream ↦ closing.Refused notARequestStream | Is q ↦ closeEntry side (entryOf (q .0) t) ])
+
+-- ---- where a stream stands: 15, 7, 10
+
+unfoldable pub standEntry : Entry → Standing
+standEntry Absent = standing.Refused notInTable
+standEntry (Present i r) = standing.At i
+
+unfoldable pub standingOf : Table → StreamId → Standing
+standingOf t id =
+    cond (isBad t)
+    (standing.Refused badTable)
+    (elim (quarterOf id) [ NotRequestStream ↦ standing.Refused notARequestStream | Is q ↦ standEntry (entryOf (q .0) t) ])
 
 -- ---- the table afterwards
 
@@ -133,6 +129,6 @@ unfoldable pub tableOpened : Table → StreamId → Bool → Opening → Table
 tableOpened t id semantics (opening.Refused r) = t
 tableOpened t id semantics (opening.Opened i) = elim (quarterOf id) [ NotRequestStream ↦ t | Is q ↦ set t i (opened q semantics) ]
 
-unfoldable pub tableClosed : Table → Closing → Table
-tableClosed t (closing.Refused r) = t
-tableClosed t (closing.Closed i record′ freed) = set t i record′
+unfoldable pub tableClosed : Table → Side → Closing → Table
+tableClosed t side (closing.Refused r) = t
+tableClosed t side (closing.Closed i freed) = set t i (closedSide side (getD t i blank))

@@ -1,3 +1,5 @@
-// The stream table: which request streams are open, and which of them know datagrams.
+// The stream table: which request streams are open, and which of them have semantics for datagrams.
+mod plan;
 pub mod record;
+mod survey;
 pub mod table;

@@ -1,19 +1,13 @@
-// A stream record.
+// A stream record: what the table holds of one request stream.
 ghost use mathlib.Core.Path.{_≡_};
-ghost use Prim.Native.Nat.{_≤_};
-ghost use mathlib.Core.Bool.{cond};
-ghost use Rattle.streams.specs.Records.{opened, bothClosed, isBadRecord, withClosed, closedSide};
-ghost use Rattle.streams.specs.Rows.{recordOf, markOf};
+ghost use Rattle.streams.specs.Records.{isUsed, receiveOpen, sendOpen, hasSemantics, opened, bothClosed, isBlank, isBadRecord, withClosed, closedSide};
 use wire::units::Quarter;
 
 #[repr(C)]
 pub struct StreamRecord {
-    pub used: bool,
     pub quarter: Quarter,
-    pub receive: bool,
-    pub send: bool,
-    // whether the request has semantics for datagrams
-    pub semantics: bool,
+    // USED, RECEIVE, SEND and SEMANTICS; the other bits mean nothing
+    pub flags: u64,
 }
 
 pub enum Side {
@@ -22,110 +16,108 @@ pub enum Side {
 }
 
 impl StreamRecord {
+    pub const USED: u64 = 1;
+
+    // the receive side is open
+    pub const RECEIVE: u64 = 2;
+
+    // the send side is open
+    pub const SEND: u64 = 4;
+
+    // the request has semantics for datagrams
+    pub const SEMANTICS: u64 = 8;
+
     // A free place.
     pub const BLANK: StreamRecord = StreamRecord {
-        used: false,
         quarter: Quarter(0),
-        receive: false,
-        send: false,
-        semantics: false,
+        flags: 0,
     };
 
     // A stream that was just opened.
-    pub fn open(quarter: Quarter, semantics: bool) -> StreamRecord
+    pub(crate) fn open(quarter: Quarter, semantics: bool) -> StreamRecord
         ensures { λ r. ⌜ r ≡ opened quarter semantics ⌝ }
     {
+        if semantics {
+            return StreamRecord {
+                quarter: quarter,
+                flags: StreamRecord::USED
+                    + StreamRecord::RECEIVE
+                    + StreamRecord::SEND
+                    + StreamRecord::SEMANTICS,
+            };
+        }
         StreamRecord {
-            used: true,
             quarter: quarter,
-            receive: true,
-            send: true,
-            semantics: semantics,
+            flags: StreamRecord::USED + StreamRecord::RECEIVE + StreamRecord::SEND,
         }
     }
 
-    // The record that two numbers say: its quarter, and its marks (see specs/Rows.antt).
-    pub fn of(quarter: u64, marks: u8) -> StreamRecord
-        ensures { λ r. ⌜ r ≡ recordOf quarter marks ⌝ }
+    pub fn is_used(self) -> bool
+        ensures { λ b. ⌜ b ≡ isUsed self ⌝ }
     {
-        StreamRecord {
-            used: marks % 2 == 1,
-            quarter: Quarter(quarter),
-            receive: marks / 2 % 2 == 1,
-            send: marks / 4 % 2 == 1,
-            semantics: marks / 8 % 2 == 1,
-        }
+        self.flags / StreamRecord::USED % 2 == 1
     }
 
-    pub fn marks(self) -> u8
-        ensures { λ r. ⌜ r ≡ markOf self ⌝ }
+    pub fn receive_open(self) -> bool
+        ensures { λ b. ⌜ b ≡ receiveOpen self ⌝ }
     {
-        mark(self.used, 1) + mark(self.receive, 2) + mark(self.send, 4) + mark(self.semantics, 8)
+        self.flags / StreamRecord::RECEIVE % 2 == 1
+    }
+
+    pub fn send_open(self) -> bool
+        ensures { λ b. ⌜ b ≡ sendOpen self ⌝ }
+    {
+        self.flags / StreamRecord::SEND % 2 == 1
+    }
+
+    pub fn has_semantics(self) -> bool
+        ensures { λ b. ⌜ b ≡ hasSemantics self ⌝ }
+    {
+        self.flags / StreamRecord::SEMANTICS % 2 == 1
+    }
+
+    // Whether it is the fixed blank, to the last bit.
+    pub(crate) fn is_blank(self) -> bool
+        ensures { λ b. ⌜ b ≡ isBlank self ⌝ }
+    {
+        let quarter = self.quarter;
+        if quarter.0 != 0 {
+            return false;
+        }
+        self.flags == 0
     }
 
     // Whether no good table has it.
-    pub fn is_bad(self) -> bool
-        ensures { λ r. ⌜ r ≡ isBadRecord self ⌝ }
+    pub(crate) fn is_bad(self) -> bool
+        ensures { λ b. ⌜ b ≡ isBadRecord self ⌝ }
     {
         let quarter = self.quarter;
         let number = quarter.0;
-        if self.used {
+        if self.is_used() {
             let max = Quarter::MAX;
             if number > max.0 {
                 return true;
             }
-            if self.receive {
+            if self.receive_open() {
                 return false;
             }
-            return !self.send;
+            return !self.send_open();
         }
-        if number != 0 {
-            return true;
-        }
-        if self.receive {
-            return true;
-        }
-        if self.send {
-            return true;
-        }
-        self.semantics
-    }
-
-    // With one side closed.
-    fn with_closed(self, side: Side) -> StreamRecord
-        ensures { λ r. ⌜ r ≡ withClosed side self ⌝ }
-    {
-        let quarter = self.quarter;
-        match side {
-            Side::Receive => StreamRecord {
-                used: self.used,
-                quarter: quarter,
-                receive: false,
-                send: self.send,
-                semantics: self.semantics,
-            },
-            Side::Send => StreamRecord {
-                used: self.used,
-                quarter: quarter,
-                receive: self.receive,
-                send: false,
-                semantics: self.semantics,
-            },
-        }
+        !self.is_blank()
     }
 
     // Whether both sides are closed once this one is.
-    pub fn frees(self, side: Side) -> bool
-        ensures { λ r. ⌜ r ≡ bothClosed (withClosed side self) ⌝ }
+    pub(crate) fn frees(self, side: Side) -> bool
+        ensures { λ b. ⌜ b ≡ bothClosed (withClosed side self) ⌝ }
     {
         match side {
-            Side::Receive => !self.send,
-            Side::Send => !self.receive,
+            Side::Receive => !self.send_open(),
+            Side::Send => !self.receive_open(),
         }
     }
 
     // With one side closed, and the blank where both are.
-    pub fn closed(self, side: Side) -> StreamRecord
+    pub(crate) fn closed(self, side: Side) -> StreamRecord
         ensures { λ r. ⌜ r ≡ closedSide side self ⌝ }
     {
         if self.frees(side) {
@@ -133,10 +125,31 @@ impl StreamRecord {
         }
         self.with_closed(side)
     }
-}
 
-fn mark(set: bool, bit: u8) -> u8
-    ensures { λ r. ⌜ (r ≡ cond set bit 0) × (r ≤ bit) ⌝ }
-{
-    if set { bit } else { 0 }
+    // With one side closed, and no other bit changed.
+    fn with_closed(self, side: Side) -> StreamRecord
+        ensures { λ r. ⌜ r ≡ withClosed side self ⌝ }
+    {
+        let quarter = self.quarter;
+        match side {
+            Side::Receive => {
+                if !self.receive_open() {
+                    return self;
+                }
+                StreamRecord {
+                    quarter: quarter,
+                    flags: self.flags - StreamRecord::RECEIVE,
+                }
+            }
+            Side::Send => {
+                if !self.send_open() {
+                    return self;
+                }
+                StreamRecord {
+                    quarter: quarter,
+                    flags: self.flags - StreamRecord::SEND,
+                }
+            }
+        }
+    }
 }

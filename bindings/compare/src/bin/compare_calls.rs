@@ -1,4 +1,5 @@
-//! Makes many calls on the verified library and on the independent implementation and compares all that comes of them.
+//! Makes many calls on the verified library, in numbers and with types, and on the independent implementation, and
+//! compares all that comes of them.
 
 use std::env;
 use std::process::ExitCode;
@@ -22,7 +23,7 @@ struct Options {
 
 fn options(mut arguments: impl Iterator<Item = String>) -> Option<Options> {
     let mut options = Options {
-        calls: 12_000_000,
+        calls: 10_000_000,
         seed: None,
         random_only: false,
         case: None,
@@ -121,6 +122,7 @@ fn main() -> ExitCode {
         }
         return ExitCode::FAILURE;
     }
+    println!("{} of them also with types", comparison.typed());
     println!(
         "compared {} calls in {} s, 0 differences",
         comparison.calls(),

@@ -2,17 +2,21 @@
 
 use independent::addresses::{Address, Ip, Range};
 use independent::captures::{push_address, push_range, Form};
+use independent::reader::MARK;
 use independent::Random;
+use maruzhenu::raw::{FrameTerms, Limits, Opening, Stream};
 
 use super::addresses::{address_entry, range_entry};
 use super::Outcome;
-use crate::call::{Bytes, Rows};
-use crate::{Call, Comparison, Lent};
+use crate::call::{lent_table, Bytes};
+use crate::{Call, Comparison, Lent, LentReader};
 
 /// All small inputs of all calls.
 pub fn exhaustive(comparison: &mut Comparison) -> Outcome {
     streams(comparison)?;
+    zeros(comparison)?;
     numbers(comparison)?;
+    identifiers(comparison)?;
     tables(comparison)?;
     messages(comparison)?;
     prefixes(comparison)?;
@@ -50,13 +54,15 @@ fn read(
     longest: usize,
 ) -> Outcome {
     let (_, call) = comparison.make(Call::ReaderOpen {
-        words: [u64::MAX; 8],
-        role,
-        limit,
-        draft: 0,
-        addresses,
+        reader: LentReader::new([u64::MAX; 8]),
+        opening: Opening {
+            role,
+            datagram_limit: limit,
+            draft: 0,
+            addresses,
+        },
     })?;
-    let mut words = *call.words().expect("an opening has words");
+    let mut words = call.words().expect("an opening has words");
     let length = match (role, addresses) {
         (0, 1) => 1_024,
         _ => 0,
@@ -65,13 +71,16 @@ fn read(
     for mut piece in stream.chunks(longest) {
         while !piece.is_empty() {
             let (answer, call) = comparison.make(Call::ReaderFeed {
-                words,
+                reader: LentReader::new(words),
                 piece: Bytes(piece.to_vec()),
                 gathering: Lent::new(&[0xee, 0xdd], 0xcc),
                 addresses: second,
                 output: Lent::new(&vec![0xbb; piece.len() + 8], 0xaa),
             })?;
-            words = *call.words().expect("a feeding has words");
+            words = call.words().expect("a feeding has words");
+            if longest == 1 {
+                look(comparison, words)?;
+            }
             let Call::ReaderFeed { addresses, .. } = call else {
                 unreachable!("it is the call that was made");
             };
@@ -83,7 +92,42 @@ fn read(
             piece = &piece[answer[1] as usize..];
         }
     }
-    comparison.make(Call::ReaderClose { words })?;
+    comparison.make(Call::ReaderClose {
+        reader: LentReader::new(words),
+    })?;
+    Ok(())
+}
+
+fn look(comparison: &mut Comparison, words: [u64; 8]) -> Outcome {
+    let reader = LentReader::new(words);
+    comparison.make(Call::ReaderLook { reader })?;
+    Ok(())
+}
+
+/// Words that are all zero, and zero but for the first or one other: every call on them.
+fn zeros(comparison: &mut Comparison) -> Outcome {
+    let marks = [0, 1, MARK - 1, MARK, MARK + 1, MARK + 2];
+    for (mark, place) in marks
+        .into_iter()
+        .flat_map(|mark| (0..8).map(move |p| (mark, p)))
+    {
+        let mut words = [0; 8];
+        words[place] = 1;
+        words[0] = mark;
+        look(comparison, words)?;
+        for (piece, room) in [(&[][..], 8), (&[0x00, 0x00], 10), (&[0x17], 0)] {
+            comparison.make(Call::ReaderFeed {
+                reader: LentReader::new(words),
+                piece: Bytes(piece.to_vec()),
+                gathering: Lent::new(&[0xee; 4], 0xcc),
+                addresses: Lent::new(&[], 0x88),
+                output: Lent::new(&vec![0xbb; room], 0xaa),
+            })?;
+        }
+        comparison.make(Call::ReaderClose {
+            reader: LentReader::new(words),
+        })?;
+    }
     Ok(())
 }
 
@@ -108,68 +152,153 @@ fn numbers(comparison: &mut Comparison) -> Outcome {
             }
         }
     }
+    for bound in [0, 1 << 6, 1 << 14, 65_536, 1 << 32, u64::MAX] {
+        for length in [bound - u64::from(bound > 0), bound] {
+            for room in 0..=6 {
+                for place in (0..=7).chain([u64::MAX - 4, u64::MAX]) {
+                    let out = Lent::new(&vec![0xbb; room], 0xaa);
+                    comparison.make(Call::WriteDatagramHeader { length, out, place })?;
+                }
+            }
+        }
+    }
+    for length in (0..=66).chain([16_383, 16_384, 65_535, 65_536]) {
+        for less in 0..=2 {
+            comparison.make(Call::WriteDatagram {
+                payload: Bytes(vec![0x77; length]),
+                out: Lent::new(&vec![0xbb; length + 6 - less], 0xaa),
+                place: 1,
+            })?;
+        }
+    }
+    Ok(())
+}
+
+/// Identifiers around every bound, each way.
+fn identifiers(comparison: &mut Comparison) -> Outcome {
+    for bound in [
+        64,
+        1 << 8,
+        1 << 32,
+        1 << 58,
+        1 << 60,
+        1 << 62,
+        1 << 63,
+        u64::MAX - 64,
+    ] {
+        for near in 0..=128 {
+            let number = bound - 64 + near;
+            comparison.make(Call::QuarterOf { id: number })?;
+            comparison.make(Call::StreamIdOf { quarter: number })?;
+        }
+    }
     Ok(())
 }
 
 const QUARTERS: [u64; 4] = [0, 1, (1 << 60) - 1, 1 << 60];
 
-/// Every table of up to two records with these quarters and any marks, and every call on it.
+/// Flags with the lowest and with the highest of the bits that mean nothing.
+const STRAY_FLAGS: [u64; 8] = [
+    1 << 4,
+    1 << 4 | 1,
+    1 << 4 | 7,
+    1 << 4 | 15,
+    1 << 63,
+    1 << 63 | 3,
+    1 << 63 | 5,
+    1 << 63 | 15,
+];
+
+/// Every table of up to two records with these quarters, and any flags or some with bits that mean nothing; one record with
+/// each of these bits; and every call on it.
 fn tables(comparison: &mut Comparison) -> Outcome {
-    let records: Vec<(u64, u8)> = QUARTERS
-        .into_iter()
-        .flat_map(|quarter| (0..16).map(move |mark| (quarter, mark)))
-        .collect();
+    let records = |flags: Vec<u64>| -> Vec<Stream> {
+        let with = |quarter| flags.iter().map(move |&flags| Stream { quarter, flags });
+        QUARTERS.into_iter().flat_map(with).collect()
+    };
+    let small = records((0..16).chain(STRAY_FLAGS).collect());
+    let strays = records((4..64).flat_map(|bit| [1 << bit, 1 << bit | 15]).collect());
     table(comparison, &[])?;
-    for &first in &records {
+    for &record in &strays {
+        table(comparison, &[record])?;
+    }
+    for &first in &small {
         table(comparison, &[first])?;
-        for &second in &records {
+        for &second in &small {
             table(comparison, &[first, second])?;
         }
     }
     Ok(())
 }
 
-fn table(comparison: &mut Comparison, records: &[(u64, u8)]) -> Outcome {
-    let (quarters, marks): (Vec<u64>, Vec<u8>) = records.iter().copied().unzip();
-    let rows = Rows::new(&quarters, &marks);
+fn table(comparison: &mut Comparison, records: &[Stream]) -> Outcome {
+    let table = lent_table(records);
     for id in [0, 4, 6, (1 << 62) - 4, 1 << 62] {
         for flag in [0, 1] {
             comparison.make(Call::StreamOpen {
-                table: rows.clone(),
+                table: table.clone(),
                 id,
                 semantics: flag,
             })?;
             comparison.make(Call::StreamClose {
-                table: rows.clone(),
+                table: table.clone(),
                 id,
                 side: flag,
             })?;
         }
+        comparison.make(Call::StreamFind {
+            table: table.clone(),
+            id,
+        })?;
         comparison.make(Call::WriteCapsule {
-            table: rows.clone(),
+            table: table.clone(),
             id,
             payload: Bytes(vec![0x77]),
             out: Lent::new(&[0xbb; 4], 0xaa),
             place: 1,
         })?;
-        for settings in [[1, 1], [1, 0]] {
+        for [our_setting, peer_setting] in [[1, 1], [1, 0], [0, 1]] {
+            let terms = FrameTerms {
+                our_setting,
+                peer_setting,
+                path_size: 9,
+            };
             comparison.make(Call::WriteFrame {
-                table: rows.clone(),
+                table: table.clone(),
                 id,
-                settings,
-                path: 9,
+                terms,
                 payload: Bytes(vec![0x77]),
                 out: Lent::new(&[0xbb; 10], 0xaa),
                 place: 1,
             })?;
+            comparison.make(Call::WriteFrameHeader {
+                table: table.clone(),
+                id,
+                terms,
+                length: 1,
+                out: Lent::new(&[0xbb; 9], 0xaa),
+                place: 1,
+            })?;
         }
     }
-    for frame in [&[][..], &[0x00], &[0x01, 0x77], &[0x40, 0x01, 0x77, 0x78]] {
-        for (streams, limit) in [(1 << 60, 1), (1, 1), (0, 65_536), ((1 << 60) + 1, 1)] {
+    for frame in [
+        &[][..],
+        &[0x00],
+        &[0x01, 0x77],
+        &[0x40, 0x01, 0x77, 0x78],
+        &[0xcf, 0xff, 0xff, 0xff, 0xff, 0xff, 0xff, 0xff],
+        &[0xd0, 0x00, 0x00, 0x00, 0x00, 0x00, 0x00, 0x00],
+    ] {
+        for (stream_limit, datagram_limit) in
+            [(1 << 60, 1), (1, 1), (0, 65_536), ((1 << 60) + 1, 1)]
+        {
+            let limits = Limits {
+                stream_limit,
+                datagram_limit,
+            };
             comparison.make(Call::Judge {
-                table: rows.clone(),
-                streams,
-                limit,
+                table: table.clone(),
+                limits,
                 frame: Bytes(frame.to_vec()),
             })?;
         }

@@ -3,10 +3,11 @@
 use independent::addresses::AddressType;
 use independent::captures::{self, address_stream, capsule_type, push_number, spoiled_value, Form};
 use independent::Random;
+use maruzhenu::raw;
 
 use super::{any, border, buffer, Outcome};
 use crate::call::Bytes;
-use crate::{Answer, Call, Comparison, Difference, Lent};
+use crate::{Answer, Call, Comparison, Difference, Lent, LentReader};
 
 /// How a reader is opened; the limit is one that is accepted.
 #[derive(Clone, Copy)]
@@ -73,6 +74,8 @@ struct Session<'a> {
     comparison: &'a mut Comparison,
     words: [u64; 8],
     opening: Opening,
+    /// How many calls were made on it.
+    calls: u64,
 }
 
 impl<'a> Session<'a> {
@@ -83,17 +86,20 @@ impl<'a> Session<'a> {
     ) -> Result<Session<'a>, Box<Difference>> {
         let words = [random.number(), 0, 1, 2, 3, 4, 5, 6];
         let (_, call) = comparison.make(Call::ReaderOpen {
-            words,
-            role: opening.role,
-            limit: opening.limit as u64,
-            draft: opening.draft,
-            addresses: opening.addresses,
+            reader: LentReader::new(words),
+            opening: raw::Opening {
+                role: opening.role,
+                datagram_limit: opening.limit as u64,
+                draft: opening.draft,
+                addresses: opening.addresses,
+            },
         })?;
-        let words = *call.words().expect("an opening has words");
+        let words = call.words().expect("an opening has words");
         Ok(Session {
             comparison,
             words,
             opening,
+            calls: 0,
         })
     }
 
@@ -113,7 +119,7 @@ impl<'a> Session<'a> {
         output: Lent<u8>,
     ) -> Result<(Answer, Buffers), Box<Difference>> {
         let call = Call::ReaderFeed {
-            words: self.words,
+            reader: LentReader::new(self.words),
             piece: Bytes(piece.to_vec()),
             gathering: buffers.gathering,
             addresses: buffers.addresses,
@@ -121,7 +127,7 @@ impl<'a> Session<'a> {
         };
         let (answer, call) = self.comparison.make(call)?;
         let Call::ReaderFeed {
-            words,
+            reader,
             gathering,
             addresses,
             ..
@@ -129,7 +135,8 @@ impl<'a> Session<'a> {
         else {
             unreachable!("it is the call that was made");
         };
-        self.words = words;
+        self.words = reader.words();
+        self.look_at_times()?;
         let buffers = Buffers {
             gathering,
             addresses,
@@ -138,9 +145,21 @@ impl<'a> Session<'a> {
     }
 
     fn close(&mut self) -> Outcome {
-        let call = Call::ReaderClose { words: self.words };
+        let call = Call::ReaderClose {
+            reader: LentReader::new(self.words),
+        };
         let (_, call) = self.comparison.make(call)?;
-        self.words = *call.words().expect("a close has words");
+        self.words = call.words().expect("a close has words");
+        self.look_at_times()
+    }
+
+    /// Looks at the reader after every third call.
+    fn look_at_times(&mut self) -> Outcome {
+        self.calls += 1;
+        if self.calls % 3 == 1 {
+            let reader = LentReader::new(self.words);
+            self.comparison.make(Call::ReaderLook { reader })?;
+        }
         Ok(())
     }
 
@@ -237,11 +256,13 @@ pub fn calls(random: &mut Random, comparison: &mut Comparison) -> Outcome {
     for _ in 0..random.size(1, 3) {
         let words = [random.number(); 8];
         comparison.make(Call::ReaderOpen {
-            words,
-            role: any(random),
-            limit: border(random),
-            draft: any(random),
-            addresses: any(random),
+            reader: LentReader::new(words),
+            opening: raw::Opening {
+                role: any(random),
+                datagram_limit: border(random),
+                draft: any(random),
+                addresses: any(random),
+            },
         })?;
     }
     let limit = limit(random);

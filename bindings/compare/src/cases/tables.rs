@@ -3,31 +3,29 @@
 use independent::captures::{push_number, Form};
 use independent::varint::size;
 use independent::Random;
+use maruzhenu::raw::{FrameTerms, Limits, Stream};
 
 use super::{any, border, buffer, Outcome};
-use crate::call::{Bytes, Rows};
-use crate::{Call, Comparison};
+use crate::call::{lent_table, Bytes};
+use crate::{Call, Comparison, Lent};
 
 const LARGEST_QUARTER: u64 = (1 << 60) - 1;
 
-/// A table as two rows of the same length.
-struct Table {
-    quarters: Vec<u64>,
-    marks: Vec<u8>,
-}
+/// The bits of flags that mean nothing.
+const STRAY: u64 = !15;
+
+/// A table, good or bad.
+struct Table(Vec<Stream>);
 
 impl Table {
-    fn rows(&self) -> Rows {
-        Rows::new(&self.quarters, &self.marks)
+    fn lent(&self) -> Lent<Stream> {
+        lent_table(&self.0)
     }
 
     /// A quarter, in most cases one that is used in the table.
     fn quarter(&self, random: &mut Random) -> u64 {
-        let rows = self.quarters.iter().zip(&self.marks);
-        let used: Vec<u64> = rows
-            .filter(|(_, &mark)| mark & 1 == 1)
-            .map(|(&quarter, _)| quarter)
-            .collect();
+        let used = self.0.iter().filter(|stream| stream.is_used());
+        let used: Vec<u64> = used.map(|stream| stream.quarter).collect();
         if used.is_empty() || random.one_in(8) {
             quarter(random)
         } else {
@@ -45,6 +43,14 @@ impl Table {
     }
 }
 
+/// Some bits that mean nothing: one, or any number of them.
+fn stray(random: &mut Random) -> u64 {
+    match random.one_in(2) {
+        true => 1 << random.between(4, 63),
+        false => random.number() & STRAY,
+    }
+}
+
 fn quarter(random: &mut Random) -> u64 {
     match random.between(0, 5) {
         0 => LARGEST_QUARTER - random.between(0, 2),
@@ -54,7 +60,7 @@ fn quarter(random: &mut Random) -> u64 {
     }
 }
 
-/// A good table.
+/// A good table, in one of three cases with bits that mean nothing in used records.
 fn good(random: &mut Random) -> Table {
     let length = match random.between(0, 5) {
         0 => random.one_of(&[0, 1, 63, 64]),
@@ -62,85 +68,77 @@ fn good(random: &mut Random) -> Table {
         _ => random.size(0, 12),
     };
     let used = random.between(0, 8);
-    let upper_bits = random.one_in(3);
-    let mut table = Table {
-        quarters: Vec::new(),
-        marks: Vec::new(),
-    };
+    let strays = random.one_in(3);
+    let mut records: Vec<Stream> = Vec::new();
     for _ in 0..length {
+        if random.between(1, 8) > used {
+            records.push(Stream::BLANK);
+            continue;
+        }
         let mut new = quarter(random);
-        while table.quarters.contains(&new) {
+        while records
+            .iter()
+            .any(|one| one.is_used() && one.quarter == new)
+        {
             new = if random.one_in(2) {
                 (new + 64) % (LARGEST_QUARTER + 1)
             } else {
                 quarter(random)
             };
         }
-        let (quarter, mut mark) = if random.between(1, 8) <= used {
-            let sides = random.one_of(&[2, 4, 6, 6, 6]);
-            (new, 1 | sides | random.one_of(&[0, 8, 8]))
-        } else {
-            (0, 0)
-        };
-        if upper_bits {
-            mark |= (random.number() as u8) & 0xf0;
+        let sides = random.one_of(&[2, 4, 6, 6, 6]);
+        let mut flags = 1 | sides | random.one_of(&[0, 8, 8]);
+        if strays && random.one_in(2) {
+            flags |= stray(random);
         }
-        table.quarters.push(quarter);
-        table.marks.push(mark);
+        records.push(Stream {
+            quarter: new,
+            flags,
+        });
     }
-    // A used quarter 0 may stand there once.
-    let zeros =
-        (0..length).filter(|&place| table.quarters[place] == 0 && table.marks[place] & 1 == 1);
-    for place in zeros.skip(1).collect::<Vec<_>>() {
-        table.marks[place] = 0;
-    }
-    table
+    Table(records)
 }
 
 /// A table that is bad, in most cases.
 fn bad(random: &mut Random) -> Table {
-    let mut table = good(random);
-    let length = table.quarters.len();
-    match random.between(0, 6) {
+    let Table(mut records) = good(random);
+    let last = match records.len() {
+        0 => {
+            records.push(Stream::BLANK);
+            0
+        }
+        length => length - 1,
+    };
+    let place = random.size(0, last);
+    let record = &mut records[place];
+    match random.between(0, 7) {
         0 => {
             let length = random.one_of(&[65, 65, 66, 100, 200]);
-            table.quarters.resize(length, 0);
-            table.marks.resize(length, 0);
+            records.resize(length, Stream::BLANK);
         }
         1 => {
-            if random.one_in(2) {
-                table.quarters.push(0);
-            } else {
-                table.marks.push(0);
-            }
+            // A free record with bits that mean nothing.
+            *record = Stream {
+                quarter: 0,
+                flags: stray(random),
+            };
         }
-        2 if length >= 2 => {
-            let (from, to) = (random.size(0, length - 1), random.size(0, length - 1));
-            table.quarters[to] = table.quarters[from];
-            table.marks[to] = table.marks[from] ^ random.one_of(&[0, 0, 2, 4, 6, 8]);
+        2 => {
+            let mut twice = *record;
+            twice.flags ^= random.one_of(&[0, 0, 2, 4, 6, 8, 16, 1 << 63]);
+            let to = random.size(0, last);
+            records[to] = twice;
         }
-        3 if length >= 1 => {
-            let place = random.size(0, length - 1);
-            table.quarters[place] = random.one_of(&[1 << 60, (1 << 60) + 1, 1 << 62, u64::MAX]);
+        3 => record.quarter = random.one_of(&[1 << 60, (1 << 60) + 1, 1 << 62, u64::MAX]),
+        4 => record.flags &= !6,
+        5 => record.flags ^= 1,
+        6 => record.flags = random.number() >> random.between(0, 63),
+        _ => {
+            record.flags = random.between(0, 31);
+            record.quarter = any(random);
         }
-        4 if length >= 1 => {
-            let place = random.size(0, length - 1);
-            table.marks[place] &= !6;
-        }
-        5 if length >= 1 => {
-            let place = random.size(0, length - 1);
-            table.marks[place] ^= 1;
-        }
-        _ if length >= 1 => {
-            let place = random.size(0, length - 1);
-            table.marks[place] = random.number() as u8;
-            if random.one_in(2) {
-                table.quarters[place] = any(random);
-            }
-        }
-        _ => table.quarters.push(1),
     }
-    table
+    Table(records)
 }
 
 fn table(random: &mut Random) -> Table {
@@ -156,43 +154,48 @@ pub fn open_and_close(random: &mut Random, comparison: &mut Comparison) -> Outco
     let mut table = table(random);
     for _ in 0..random.size(4, 60) {
         let id = table.id(random);
-        let rows = table.rows();
+        let lent = table.lent();
+        if random.one_in(4) {
+            comparison.make(Call::StreamFind {
+                table: table.lent(),
+                id,
+            })?;
+        }
         let call = if random.one_in(2) {
             let semantics = any(random);
             Call::StreamOpen {
-                table: rows,
+                table: lent,
                 id,
                 semantics,
             }
         } else {
             let side = random.one_of(&[0, 0, 0, 1, 1, 1, 2, u64::MAX]);
             Call::StreamClose {
-                table: rows,
+                table: lent,
                 id,
                 side,
             }
         };
         let (_, call) = comparison.make(call)?;
-        if let Call::StreamOpen { table: rows, .. } | Call::StreamClose { table: rows, .. } = call {
-            table.quarters = rows.quarters.get().to_vec();
-            table.marks = rows.marks.get().to_vec();
+        if let Some(left) = call.table() {
+            table = Table(left.get().to_vec());
         }
     }
     // A table that is filled up, and one stream more.
-    let length = table.quarters.len();
+    let length = table.0.len();
     if random.one_in(4) && length <= 64 {
-        let mut rows = Rows::new(&vec![0; length], &vec![0; length]);
+        let mut lent = lent_table(&vec![Stream::BLANK; length]);
         let first = random.between(0, 1 << 20);
         for number in 0..=length as u64 {
             let (_, call) = comparison.make(Call::StreamOpen {
-                table: rows,
+                table: lent,
                 id: (first + 64 * number) * 4,
                 semantics: number % 2,
             })?;
             let Call::StreamOpen { table, .. } = call else {
                 unreachable!("it is the call that was made");
             };
-            rows = table;
+            lent = table;
         }
     }
     Ok(())
@@ -220,7 +223,7 @@ fn stream_limit(random: &mut Random, quarter: u64) -> u64 {
 pub fn frames(random: &mut Random, comparison: &mut Comparison) -> Outcome {
     let table = table(random);
     for _ in 0..40 {
-        let limit = datagram_limit(random);
+        let datagram_limit = datagram_limit(random);
         let quarter = table.quarter(random);
         let mut frame = Vec::new();
         match random.between(0, 9) {
@@ -244,7 +247,7 @@ pub fn frames(random: &mut Random, comparison: &mut Comparison) -> Outcome {
             0 => frame.truncate(random.size(0, frame.len())),
             1 => {}
             _ => {
-                let near = (limit.min(65_600) as usize).saturating_sub(1);
+                let near = (datagram_limit.min(65_600) as usize).saturating_sub(1);
                 let length = match random.between(0, 3) {
                     0 => random.size(0, 60),
                     _ => near + random.size(0, 2),
@@ -252,11 +255,13 @@ pub fn frames(random: &mut Random, comparison: &mut Comparison) -> Outcome {
                 frame.extend(random.bytes(length));
             }
         }
-        let streams = stream_limit(random, quarter);
+        let limits = Limits {
+            stream_limit: stream_limit(random, quarter),
+            datagram_limit,
+        };
         comparison.make(Call::Judge {
-            table: table.rows(),
-            streams,
-            limit,
+            table: table.lent(),
+            limits,
             frame: Bytes(frame),
         })?;
     }
@@ -275,7 +280,7 @@ pub fn place(random: &mut Random, fits: usize, length: usize) -> u64 {
     }
 }
 
-/// Capsules and frames written under one table.
+/// Capsules and frames written under one table, and capsules without one; of some the headers alone.
 pub fn writers(random: &mut Random, comparison: &mut Comparison) -> Outcome {
     let table = table(random);
     for _ in 0..30 {
@@ -286,48 +291,102 @@ pub fn writers(random: &mut Random, comparison: &mut Comparison) -> Outcome {
             9..=12 => random.size(0, 1_300),
             _ => random.size(0, 20),
         };
-        let payload = Bytes(random.bytes(length));
         let id = table.id(random);
         let capsule = random.one_in(2);
         let header = match capsule {
             true => 1 + size(length as u64),
             false => size(id / 4),
         };
+        let alone = random.one_in(3);
         let fits = random.size(0, 24);
-        let room = header + length + fits;
+        let room = match alone {
+            true => header + fits,
+            false => header + length + fits,
+        };
         let place = place(random, fits, room);
         let out = buffer(random, room);
-        let call = if capsule {
-            Call::WriteCapsule {
-                table: table.rows(),
-                id,
-                payload,
-                out,
-                place,
+        let terms = terms(random, length + header);
+        let call = if alone {
+            // A length needs no payload, so that any is tried.
+            let length = match random.one_in(8) {
+                true => any(random),
+                false => length as u64,
+            };
+            match capsule {
+                true => Call::WriteDatagramHeader { length, out, place },
+                false => Call::WriteFrameHeader {
+                    table: table.lent(),
+                    id,
+                    terms,
+                    length,
+                    out,
+                    place,
+                },
             }
         } else {
-            let settings = match random.between(0, 9) {
-                0 => [any(random), any(random)],
-                1 => random.one_of(&[[0, 1], [1, 0], [2, 1], [1, 2]]),
-                _ => [1, 1],
-            };
-            let path = match random.between(0, 7) {
-                0 => border(random),
-                1 => (length + header) as u64 - 1,
-                2 | 3 => (length + header) as u64,
-                _ => 80_000,
-            };
-            Call::WriteFrame {
-                table: table.rows(),
-                id,
-                settings,
-                path,
-                payload,
-                out,
-                place,
+            let payload = Bytes(random.bytes(length));
+            match (capsule, random.one_in(3)) {
+                (true, true) => Call::WriteDatagram {
+                    payload,
+                    out,
+                    place,
+                },
+                (true, false) => Call::WriteCapsule {
+                    table: table.lent(),
+                    id,
+                    payload,
+                    out,
+                    place,
+                },
+                (false, _) => Call::WriteFrame {
+                    table: table.lent(),
+                    id,
+                    terms,
+                    payload,
+                    out,
+                    place,
+                },
             }
         };
         comparison.make(call)?;
+    }
+    Ok(())
+}
+
+/// What a frame of this size is sent by: agreed in most cases, on a path that is sometimes short.
+fn terms(random: &mut Random, size: usize) -> FrameTerms {
+    let [our_setting, peer_setting] = match random.between(0, 9) {
+        0 => [any(random), any(random)],
+        1 => random.one_of(&[[0, 1], [1, 0], [2, 1], [1, 2]]),
+        _ => [1, 1],
+    };
+    let path_size = match random.between(0, 7) {
+        0 => border(random),
+        1 => size as u64 - 1,
+        2 | 3 => size as u64,
+        _ => 80_000,
+    };
+    FrameTerms {
+        our_setting,
+        peer_setting,
+        path_size,
+    }
+}
+
+/// Identifiers converted each way.
+pub fn identifiers(random: &mut Random, comparison: &mut Comparison) -> Outcome {
+    for _ in 0..40 {
+        let id = match random.between(0, 3) {
+            0 => any(random),
+            1 => quarter(random).wrapping_mul(4) ^ random.between(0, 3),
+            _ => quarter(random).wrapping_mul(4),
+        };
+        comparison.make(Call::QuarterOf { id })?;
+        let quarter = match random.one_in(2) {
+            true => any(random),
+            false => quarter(random),
+        };
+        comparison.make(Call::StreamIdOf { quarter })?;
     }
     Ok(())
 }

@@ -1,11 +1,12 @@
 //! The eight words of a reader, as calls leave them and damaged.
 
 use independent::captures::{capsule_type, number_of_any_size, push_number, Form};
+use independent::reader::MARK;
 use independent::Random;
 
 use super::{any, border, buffer, Outcome};
 use crate::call::Bytes;
-use crate::{Call, Comparison};
+use crate::{Call, Comparison, LentReader};
 
 const LARGEST: u64 = (1 << 62) - 1;
 
@@ -50,7 +51,7 @@ fn of_a_reader(random: &mut Random) -> [u64; 8] {
         }
     };
     let finished = u64::from(random.one_in(5));
-    let (role, settings) = (random.between(0, 1), random.between(0, 3));
+    let (role, settings) = (MARK + random.between(0, 1), random.between(0, 3));
     [role, limit, settings, phase, first, second, third, finished]
 }
 
@@ -103,18 +104,22 @@ pub fn words(random: &mut Random, comparison: &mut Comparison) -> Outcome {
         let place = random.size(0, 7);
         words[place] = other[place];
         try_words(random, comparison, words)?;
-        let words = [0; 8].map(|_: u64| match random.between(0, 2) {
+        let mut words = [0; 8].map(|_: u64| match random.between(0, 2) {
             0 => random.between(0, 4),
             1 => random.between(0, 300),
             _ => any(random),
         });
+        if random.one_in(2) {
+            words[0] = MARK + random.between(0, 1);
+        }
         try_words(random, comparison, words)?;
     }
+    try_words(random, comparison, [0; 8])?;
     let words = [0; 8].map(|_: u64| random.number());
     try_words(random, comparison, words)
 }
 
-/// Feeds and closes a reader with these words, the buffers sometimes short.
+/// Looks at a reader with these words, feeds and closes it, the buffers sometimes short.
 fn try_words(random: &mut Random, comparison: &mut Comparison, words: [u64; 8]) -> Outcome {
     let length = random.size(0, 20);
     let mut piece = random.bytes(length);
@@ -133,13 +138,18 @@ fn try_words(random: &mut Random, comparison: &mut Comparison, words: [u64; 8]) 
         _ => random.size(0, 2),
     };
     let call = Call::ReaderFeed {
-        words,
+        reader: LentReader::new(words),
         piece: Bytes(piece),
         gathering: buffer(random, gathering),
         addresses: buffer(random, addresses),
         output: buffer(random, output),
     };
+    comparison.make(Call::ReaderLook {
+        reader: LentReader::new(words),
+    })?;
     comparison.make(call)?;
-    comparison.make(Call::ReaderClose { words })?;
+    comparison.make(Call::ReaderClose {
+        reader: LentReader::new(words),
+    })?;
     Ok(())
 }

@@ -388,7 +388,7 @@ fn read_addresses(pieces: &[&[u8]]) -> (Vec<Report>, Vec<Vec<u8>>, usize, Vec<u8
         }
     }
     if let Some(Malformed { .. }) = reports.last() {
-        assert_eq!(reader.words(), [0, 2, 2, 0, 0, 0, 0, 1]);
+        assert_eq!(reader.words(), [MARK, 2, 2, 0, 0, 0, 0, 1]);
         assert_eq!(reader.close(), Err(Refusal::Finished));
     }
     (reports, values, consumed, addresses)

@@ -1,12 +1,15 @@
 //! A reader as eight words, the form in which the C interface keeps one.
 //!
-//! Role, datagram limit, settings (1 draft, 2 addresses), phase, three words that go by the phase, finished. In the type: how many bytes
-//! have come, their big-endian number, 0. In the length: the type, how many bytes have come, their number. In the
-//! value: the type, the length, how many bytes are left.
+//! Role, datagram limit, settings (1 draft, 2 addresses), phase, three words that go by the phase, finished. The role
+//! has a mark above it. In the type: how many bytes have come, their big-endian number, 0. In the length: the type, how
+//! many bytes have come, their number. In the value: the type, the length, how many bytes are left.
 
 use super::{Reader, Role, State, LARGEST_LIMIT};
 use crate::addresses::LONGEST_VALUE;
 use crate::varint::{Arriving, LARGEST};
+
+/// The first word of a reader without the role's number: "mrz" and a byte 0.
+pub const MARK: u64 = u32::from_be_bytes(*b"mrz\0") as u64;
 
 impl Reader {
     /// The words of the reader.
@@ -27,8 +30,8 @@ impl Reader {
             } => [2, capsule_type, length, left],
         };
         let role = match self.role {
-            Role::Endpoint => 0,
-            Role::Intermediary => 1,
+            Role::Endpoint => MARK,
+            Role::Intermediary => MARK + 1,
         };
         let settings = u64::from(self.draft) + 2 * u64::from(self.addresses);
         let finished = u64::from(self.finished);
@@ -40,9 +43,9 @@ impl Reader {
     /// The reader with these words, or `None` if no opening, feeding and closing makes one.
     pub fn from_words(words: [u64; 8]) -> Option<Reader> {
         let [role, limit, settings, phase, first, second, third, finished] = words;
-        let role = match role {
-            0 => Role::Endpoint,
-            1 => Role::Intermediary,
+        let role = match role.checked_sub(MARK) {
+            Some(0) => Role::Endpoint,
+            Some(1) => Role::Intermediary,
             _ => return None,
         };
         let (draft, addresses) = match settings {
@@ -112,16 +115,16 @@ mod tests {
     #[test]
     fn words_of_each_phase() {
         let mut reader = Reader::new(Role::Intermediary, 5, true, false).unwrap();
-        assert_eq!(reader.words(), [1, 5, 1, 0, 0, 0, 0, 0]);
+        assert_eq!(reader.words(), [MARK + 1, 5, 1, 0, 0, 0, 0, 0]);
         for (byte, words) in [
-            (0x40, [1, 5, 1, 0, 1, 0x40, 0, 0]),
-            (0x17, [1, 5, 1, 1, 0x17, 0, 0, 0]),
-            (0x80, [1, 5, 1, 1, 0x17, 1, 0x80, 0]),
-            (0x00, [1, 5, 1, 1, 0x17, 2, 0x8000, 0]),
-            (0x00, [1, 5, 1, 1, 0x17, 3, 0x80_0000, 0]),
-            (0x02, [1, 5, 1, 2, 0x17, 2, 2, 0]),
-            (0x99, [1, 5, 1, 2, 0x17, 2, 1, 0]),
-            (0x99, [1, 5, 1, 0, 0, 0, 0, 0]),
+            (0x40, [MARK + 1, 5, 1, 0, 1, 0x40, 0, 0]),
+            (0x17, [MARK + 1, 5, 1, 1, 0x17, 0, 0, 0]),
+            (0x80, [MARK + 1, 5, 1, 1, 0x17, 1, 0x80, 0]),
+            (0x00, [MARK + 1, 5, 1, 1, 0x17, 2, 0x8000, 0]),
+            (0x00, [MARK + 1, 5, 1, 1, 0x17, 3, 0x80_0000, 0]),
+            (0x02, [MARK + 1, 5, 1, 2, 0x17, 2, 2, 0]),
+            (0x99, [MARK + 1, 5, 1, 2, 0x17, 2, 1, 0]),
+            (0x99, [MARK + 1, 5, 1, 0, 0, 0, 0, 0]),
         ] {
             let fed = reader.feed(&[byte], &mut [0; 5], &mut [], &mut [0; 9]);
             assert!(fed.is_ok());
@@ -130,49 +133,52 @@ mod tests {
             assert_eq!(again.words(), words);
         }
         reader.close().unwrap();
-        assert_eq!(reader.words(), [1, 5, 1, 0, 0, 0, 0, 1]);
+        assert_eq!(reader.words(), [MARK + 1, 5, 1, 0, 0, 0, 0, 1]);
     }
 
     #[test]
     fn words_of_no_reader() {
         let large = 1 << 62;
         for words in [
-            [2, 0, 0, 0, 0, 0, 0, 0],
-            [0, 65_536, 0, 0, 0, 0, 0, 0],
-            [0, 0, 4, 0, 0, 0, 0, 0],
-            [0, 0, 0, 3, 0, 0, 0, 0],
-            [0, 0, 0, 0, 0, 0, 0, 2],
+            [0; 8],
+            [1, 0, 0, 0, 0, 0, 0, 0],
+            [MARK - 1, 0, 0, 0, 0, 0, 0, 0],
+            [MARK + 2, 0, 0, 0, 0, 0, 0, 0],
+            [MARK, 65_536, 0, 0, 0, 0, 0, 0],
+            [MARK, 0, 4, 0, 0, 0, 0, 0],
+            [MARK, 0, 0, 3, 0, 0, 0, 0],
+            [MARK, 0, 0, 0, 0, 0, 0, 2],
             // no bytes, but a number; a number too large for its bytes; a whole number; more bytes than any
-            [0, 0, 0, 0, 0, 1, 0, 0],
-            [0, 0, 0, 0, 1, 256, 0, 0],
-            [0, 0, 0, 0, 1, 0x3f, 0, 0],
-            [0, 0, 0, 0, 2, 0x4000, 0, 0],
-            [0, 0, 0, 0, 8, 0xc000_0000_0000_0000, 0, 0],
-            [0, 0, 0, 0, 256, 0, 0, 0],
-            [0, 0, 0, 0, 0, 0, 1, 0],
-            [0, 0, 0, 1, large, 0, 0, 0],
-            [0, 0, 0, 1, 0, 1, 0, 0],
-            [0, 0, 0, 2, large, 1, 1, 0],
-            [0, 0, 0, 2, 0, large, 1, 0],
-            [0, 0, 0, 2, 0, 1, 0, 0],
-            [0, 0, 0, 2, 0, 1, 2, 0],
+            [MARK, 0, 0, 0, 0, 1, 0, 0],
+            [MARK, 0, 0, 0, 1, 256, 0, 0],
+            [MARK, 0, 0, 0, 1, 0x3f, 0, 0],
+            [MARK, 0, 0, 0, 2, 0x4000, 0, 0],
+            [MARK, 0, 0, 0, 8, 0xc000_0000_0000_0000, 0, 0],
+            [MARK, 0, 0, 0, 256, 0, 0, 0],
+            [MARK, 0, 0, 0, 0, 0, 1, 0],
+            [MARK, 0, 0, 1, large, 0, 0, 0],
+            [MARK, 0, 0, 1, 0, 1, 0, 0],
+            [MARK, 0, 0, 2, large, 1, 1, 0],
+            [MARK, 0, 0, 2, 0, large, 1, 0],
+            [MARK, 0, 0, 2, 0, 1, 0, 0],
+            [MARK, 0, 0, 2, 0, 1, 2, 0],
             // within an address value that is too long
-            [0, 0, 2, 2, 1, 1_025, 1, 0],
-            [0, 0, 3, 2, 3, large - 1, 1, 0],
-            [0, 0, 2, 2, 2, 1_025, 1_025, 1],
+            [MARK, 0, 2, 2, 1, 1_025, 1, 0],
+            [MARK, 0, 3, 2, 3, large - 1, 1, 0],
+            [MARK, 0, 2, 2, 2, 1_025, 1_025, 1],
         ] {
             assert_eq!(Reader::from_words(words), None, "{words:?}");
         }
         for words in [
-            [1, 65_535, 1, 0, 7, 0xff_ffff_ffff_ffff, 0, 1],
-            [0, 0, 0, 1, large - 1, 3, 0x80_0000, 0],
-            [0, 0, 0, 2, large - 1, large - 1, 1, 0],
-            [0, 0, 2, 2, 1, 1_024, 1_024, 0],
-            [0, 0, 2, 1, 1, 1, 0x44, 0],
-            [0, 0, 2, 2, 4, 1_025, 1, 0],
-            [0, 0, 2, 2, 0, 1_025, 1, 0],
-            [0, 0, 1, 2, 1, 1_025, 1, 0],
-            [1, 0, 2, 2, 1, 1_025, 1, 0],
+            [MARK + 1, 65_535, 1, 0, 7, 0xff_ffff_ffff_ffff, 0, 1],
+            [MARK, 0, 0, 1, large - 1, 3, 0x80_0000, 0],
+            [MARK, 0, 0, 2, large - 1, large - 1, 1, 0],
+            [MARK, 0, 2, 2, 1, 1_024, 1_024, 0],
+            [MARK, 0, 2, 1, 1, 1, 0x44, 0],
+            [MARK, 0, 2, 2, 4, 1_025, 1, 0],
+            [MARK, 0, 2, 2, 0, 1_025, 1, 0],
+            [MARK, 0, 1, 2, 1, 1_025, 1, 0],
+            [MARK + 1, 0, 2, 2, 1, 1_025, 1, 0],
         ] {
             assert!(Reader::from_words(words).is_some(), "{words:?}");
         }

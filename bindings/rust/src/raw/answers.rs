@@ -1,6 +1,6 @@
-//! The answers and entries of the C interface, field by field.
+//! The structs of the C interface, field by field. Each has the C name without `mrz_`, in Rust's spelling.
 
-use std::mem::size_of;
+use core::mem::{align_of, size_of};
 
 /// The answer of [`read_varint`](super::read_varint); `size` 0 says that the bytes end first.
 #[repr(C)]
@@ -22,6 +22,29 @@ pub struct Written {
     pub written: u64,
 }
 
+/// A reader. Its words are opaque: [`reader_open`](super::reader_open) makes them. Any words may be handed to the other
+/// calls, which refuse those that no opening, feeding and closing could make, all zero among them.
+#[repr(C)]
+#[derive(Clone, Copy, Debug, Default, PartialEq, Eq, Hash)]
+pub struct Reader {
+    /// The stored form.
+    pub words: [u64; 8],
+}
+
+/// How a reader is opened.
+#[repr(C)]
+#[derive(Clone, Copy, Debug, Default, PartialEq, Eq, Hash)]
+pub struct Opening {
+    /// 0 endpoint, any other intermediary.
+    pub role: u64,
+    /// The longest datagram that is delivered.
+    pub datagram_limit: u64,
+    /// 0 no, any other yes.
+    pub draft: u64,
+    /// 0 no, any other yes.
+    pub addresses: u64,
+}
+
 /// The answer of [`reader_feed`](super::reader_feed).
 #[repr(C)]
 #[derive(Clone, Copy, Debug, Default, PartialEq, Eq)]
@@ -35,7 +58,7 @@ pub struct Fed {
     /// 0 no capsule ended, 1 delivered, 2 dropped, 3 skipped, 4 passed, 5 address capsule delivered, 6 malformed.
     pub report: u64,
     /// The type of the capsule that ended, 0 for delivered and dropped.
-    pub capsule_type: u64,
+    pub r#type: u64,
     /// The length of the capsule that ended, else 0.
     pub length: u64,
     /// The error's number with report 6, else 0.
@@ -54,6 +77,30 @@ pub struct Closed {
     pub error: u64,
 }
 
+/// The answer of [`reader_look`](super::reader_look).
+#[repr(C)]
+#[derive(Clone, Copy, Debug, Default, PartialEq, Eq)]
+pub struct Look {
+    /// Why the call was refused, or 0.
+    pub refusal: u64,
+    /// 1 where the reader is finished.
+    pub finished: u64,
+    /// The datagram limit that it was opened with.
+    pub datagram_limit: u64,
+    /// 0 between capsules, 1 in a type, 2 in a length, 3 in a value.
+    pub field: u64,
+    /// The capsule's type, in a length and in a value.
+    pub r#type: u64,
+    /// The length of its value, in a value.
+    pub length: u64,
+    /// How many bytes of the value are to come.
+    pub to_come: u64,
+    /// How many bytes of the value stand in the buffer.
+    pub gathered: u64,
+    /// 0 neither, 1 the gathering buffer, 2 the address buffer.
+    pub buffer: u64,
+}
+
 /// The answer of [`list`](super::list).
 #[repr(C)]
 #[derive(Clone, Copy, Debug, Default, PartialEq, Eq)]
@@ -66,6 +113,18 @@ pub struct Listing {
     pub headers: u64,
     /// 1 clean, 2 truncated.
     pub end: u64,
+}
+
+/// A record of a stream table, free or holding a request stream. The free one is all zero.
+///
+/// Any flags have a reading, see [`crate::table`].
+#[repr(C)]
+#[derive(Clone, Copy, Debug, Default, PartialEq, Eq, Hash)]
+pub struct Stream {
+    /// The quarter stream ID: the stream's ID divided by 4.
+    pub quarter: u64,
+    /// [`Stream::USED`], [`Stream::RECEIVE`], [`Stream::SEND`] and [`Stream::SEMANTICS`]; the other bits mean nothing.
+    pub flags: u64,
 }
 
 /// The answer of [`stream_open`](super::stream_open).
@@ -84,8 +143,62 @@ pub struct Opened {
 pub struct SideClosed {
     /// Why the call was refused, or 0.
     pub refusal: u64,
-    /// 1 where the place became free.
+    /// The place of the record.
+    pub place: u64,
+    /// 1 where it became free.
     pub freed: u64,
+}
+
+/// The answer of [`stream_find`](super::stream_find).
+#[repr(C)]
+#[derive(Clone, Copy, Debug, Default, PartialEq, Eq)]
+pub struct Found {
+    /// Why the call was refused, or 0.
+    pub refusal: u64,
+    /// The place of the record.
+    pub place: u64,
+}
+
+/// The answer of [`quarter_of`](super::quarter_of).
+#[repr(C)]
+#[derive(Clone, Copy, Debug, Default, PartialEq, Eq)]
+pub struct Quarter {
+    /// Why the call was refused, or 0.
+    pub refusal: u64,
+    /// The quarter stream ID.
+    pub quarter: u64,
+}
+
+/// The answer of [`stream_id_of`](super::stream_id_of).
+#[repr(C)]
+#[derive(Clone, Copy, Debug, Default, PartialEq, Eq)]
+pub struct StreamId {
+    /// 1 for a number above 2^60-1, which is no quarter.
+    pub too_large: u64,
+    /// The stream ID.
+    pub stream_id: u64,
+}
+
+/// What [`judge`](super::judge) goes by.
+#[repr(C)]
+#[derive(Clone, Copy, Debug, Default, PartialEq, Eq, Hash)]
+pub struct Limits {
+    /// How many request streams there may be, 2^60 where that is not known.
+    pub stream_limit: u64,
+    /// The longest datagram that is delivered.
+    pub datagram_limit: u64,
+}
+
+/// What [`write_frame`](super::write_frame) goes by.
+#[repr(C)]
+#[derive(Clone, Copy, Debug, Default, PartialEq, Eq, Hash)]
+pub struct FrameTerms {
+    /// Our SETTINGS_H3_DATAGRAM.
+    pub our_setting: u64,
+    /// The peer's SETTINGS_H3_DATAGRAM.
+    pub peer_setting: u64,
+    /// The largest payload of a frame that the path carries.
+    pub path_size: u64,
 }
 
 /// The answer of [`judge`](super::judge).
@@ -96,7 +209,9 @@ pub struct Judged {
     pub refusal: u64,
     /// The rule, 1 to 8.
     pub rule: u64,
-    /// With rule 8, the place of the record.
+    /// With rules 2 to 8, the quarter stream ID.
+    pub quarter: u64,
+    /// With rules 5 to 8, the place of the record.
     pub place: u64,
     /// With rule 8, where in the frame the payload begins.
     pub start: u64,
@@ -137,8 +252,10 @@ pub struct Route {
     pub end: [u8; 16],
 }
 
-// The sizes that the archive was built for. Neither has a byte between or behind its fields.
+// The sizes that the archive was built for. None has a byte between or behind its fields.
 const _: () = assert!(size_of::<Address>() == 32 && size_of::<Route>() == 34);
+const _: () = assert!(size_of::<Stream>() == 16);
+const _: () = assert!(size_of::<Reader>() == 64 && align_of::<Reader>() == 8);
 
 /// The answer of [`address_next`](super::address_next).
 #[repr(C)]

@@ -1,132 +1,85 @@
-use mathlib.Core.Path.{sym, _∙_}
-use Rattle.datagram.specs.Judging.{ruleOf}
-use Rattle.capi.specs.Frames.{ruleNumber, judgedAnswer}
-use borrow.Author.Needs.{needs}
-use Rattle.capi.proofs.frames.mrz_judge.Statement.{statement}
-use Rattle.capi.proofs.frames.mrz_judge.Tie as tie
+-- `mrz_judge` meets its contract, by a walk of its code: the rows, the two limits and the frame go to `judge`, and its answer goes with the frame to `judged_answer`. Assumes nothing.
+use mathlib.Core.Path.{_≡_, refl, ap, _∙_}
+use mathlib.Core.List.{List, [], _∷_}
+use mir.Syntax.{named}
+use base.Fml.{flft}
+use contract.Lifetimes.{Lfts, toks}
+use contract.Running.{givenOf, tables}
+use types.Kit.{‵, raw, _⊛_, _$_, !, move, use1, recast, split, join, fsplit, fjoin}
+use types.Part.{whole, sub, look-in}
+use types.Run.{look, init, stop, fld, from, load, and-then, no-more, land, enter, alloc1, alloc0, params1, pass1, pass0, free0}
+use denote.Builtin.{u8}
+use denote.Laws.{Is, shows}
+use denote.Ref.{now}
+use denote.RattleType.{Denots}
+use denote.Signature.{plain, typesAt}
+use denote.Slice.{ShrSlice, shr-slice-copy, slice-vals}
+use denote.Steps.{facts, nothing}
+use denote.Struct.Laws as LL
+use denote.Enum.Laws as EL
+use denote.Triple.Table.{cited}
+use Rattle.streams.proofs.Answering.{rows}
+use Rattle.walks.proofs.Calling.{Fact, calls-ensuring}
+use Rattle.walks.proofs.Passing.{Param, datum, bytes, slots, values, passing, taking, takes-last, clears, ends-owning, meets-passing}
+use Rattle.datagram.specs.Judging.{judgedOf}
+use Rattle.datagram.proofs.judge.Judged as J
+use Rattle.datagram.proofs.judge.Judged.Laws as J′
+use Rattle.datagram.proofs.judge.judge.Symbol as judge-def
+use Rattle.datagram.proofs.judge.judge.Symbol.{name as #judge}
+use Rattle.datagram.proofs.judge.judge.Met as judge-thm
+use Rattle.datagram.proofs.Framing.{framed}
+use Rattle.capi.specs.Frames.{judgedAnswer}
+use Rattle.capi.proofs.frames.Limits as L
+use Rattle.capi.proofs.frames.Limits.Laws as L′
+use Rattle.capi.proofs.frames.JudgedAnswer as Z
+use Rattle.capi.proofs.frames.JudgedAnswer.Laws as Z′
+use Rattle.capi.proofs.frames.judged_answer.Symbol as say-def
+use Rattle.capi.proofs.frames.judged_answer.Symbol.{name as #say}
+use Rattle.capi.proofs.frames.judged_answer.Met as say-thm
+use Rattle.capi.proofs.frames.mrz_judge.Key.{name as #f}
+use Rattle.capi.proofs.frames.mrz_judge.Statement as stated
+use Rattle.capi.proofs.frames.mrz_judge.Code as code
+use Rattle.capi.proofs.Crossing.{worded}
 
-judge-requires : tie.Need-judge-requires
-judge-requires c κs = search needs
+abbrev given : List (Param 2)
+given = rows ∷ datum L.the-row (LL.vals L.the-type L′.the-laws) (LL.tells L.the-type L′.the-laws) (λ M 𝓤 H A W. LL.lawful L.the-type L′.the-laws 𝓤 H A W) ∷ bytes 1 tt ∷ []
 
-enum-known-judged : tie.Need-enum-known-judged
-enum-known-judged c = search needs
+abbrev passed : (κs : Lfts 2) → Denots (typesAt (slots given) κs) → Denots (typesAt (slots (rows ∷ framed)) κs)
+passed κs a = (a .0, (a .1 .0 .«stream_limit», (a .1 .0 .«datagram_limit», a .1 .1)))
 
-refusal-number-requires : tie.Need-refusal-number-requires
-refusal-number-requires c κs = search needs
+abbrev Judges : Fact (passing (rows ∷ framed) (plain (λ _. J.the-row)))
+Judges κs a r e = r ≡ judgedOf (now (a .0)) (a .1 .0) (a .1 .1 .0) (now (a .1 .1 .1 .0))
 
-enum-told : tie.Need-enum-told
-enum-told c = search needs
+abbrev Said : Fact (taking J.the-row 1 (slots (bytes 0 tt ∷ [])) (plain (λ _. Z.the-row)))
+Said κs a r e = r ≡ judgedAnswer (now (a .1 .0)) (a .0)
 
-ruled-requires : tie.Need-ruled-requires
-ruled-requires c κs = search needs
+abbrev Claimed : Fact (passing given (plain (λ _. Z.the-row)))
+Claimed κs a r e = r ≡ judgedAnswer (now (a .1 .1 .0)) (judgedOf (now (a .0)) (a .1 .0 .«stream_limit») (a .1 .0 .«datagram_limit») (now (a .1 .1 .0)))
 
-enum-told-2 : tie.Need-enum-told-2
-enum-told-2 c = search needs
-
-ruled-requires-2 : tie.Need-ruled-requires-2
-ruled-requires-2 c κs = search needs
-
-enum-told-3 : tie.Need-enum-told-3
-enum-told-3 c = search needs
-
-ruled-requires-3 : tie.Need-ruled-requires-3
-ruled-requires-3 c κs = search needs
-
-enum-told-4 : tie.Need-enum-told-4
-enum-told-4 c = search needs
-
-ruled-requires-4 : tie.Need-ruled-requires-4
-ruled-requires-4 c κs = search needs
-
-enum-told-5 : tie.Need-enum-told-5
-enum-told-5 c = search needs
-
-ruled-requires-5 : tie.Need-ruled-requires-5
-ruled-requires-5 c κs = search needs
-
-enum-told-6 : tie.Need-enum-told-6
-enum-told-6 c = search needs
-
-ruled-requires-6 : tie.Need-ruled-requires-6
-ruled-requires-6 c κs = search needs
-
-enum-told-7 : tie.Need-enum-told-7
-enum-told-7 c = search needs
-
-ruled-requires-7 : tie.Need-ruled-requires-7
-ruled-requires-7 c κs = search needs
-
-enum-known-judged-2 : tie.Need-enum-known-judged-2
-enum-known-judged-2 c = search needs
-
-delivered-requires : tie.Need-delivered-requires
-delivered-requires c κs = search needs
-
-returns : tie.Need-returns
-unfolding judgedAnswer
-returns c = rw (sym (c .before .before .before .before .judge .ensures) ∙ c .before .before .judged .given .1, c .refusal-number .ensures)
-
-returns-2 : tie.Need-returns-2
-unfolding judgedAnswer ruleNumber ruleOf
-returns-2 c = rw (sym (c .before .before .before .judge .ensures) ∙ c .before .enum-told .given .1) (c .ruled .ensures ∙ rw (c .before .enum-told .given .1))
-
-returns-3 : tie.Need-returns-3
-unfolding judgedAnswer ruleNumber ruleOf
-returns-3 c = rw (sym (c .before .before .before .judge .ensures) ∙ c .before .enum-told2 .given .1) (c .ruled2 .ensures ∙ rw (c .before .enum-told2 .given .1))
-
-returns-4 : tie.Need-returns-4
-unfolding judgedAnswer ruleNumber ruleOf
-returns-4 c = rw (sym (c .before .before .before .judge .ensures) ∙ c .before .enum-told3 .given .1) (c .ruled3 .ensures ∙ rw (c .before .enum-told3 .given .1))
-
-returns-5 : tie.Need-returns-5
-unfolding judgedAnswer ruleNumber ruleOf
-returns-5 c = rw (sym (c .before .before .before .judge .ensures) ∙ c .before .enum-told4 .given .1) (c .ruled4 .ensures ∙ rw (c .before .enum-told4 .given .1))
-
-returns-6 : tie.Need-returns-6
-unfolding judgedAnswer ruleNumber ruleOf
-returns-6 c = rw (sym (c .before .before .before .judge .ensures) ∙ c .before .enum-told5 .given .1) (c .ruled5 .ensures ∙ rw (c .before .enum-told5 .given .1))
-
-returns-7 : tie.Need-returns-7
-unfolding judgedAnswer ruleNumber ruleOf
-returns-7 c = rw (sym (c .before .before .before .judge .ensures) ∙ c .before .enum-told6 .given .1) (c .ruled6 .ensures ∙ rw (c .before .enum-told6 .given .1))
-
-returns-8 : tie.Need-returns-8
-unfolding judgedAnswer ruleNumber ruleOf
-returns-8 c = rw (sym (c .before .before .before .judge .ensures) ∙ c .before .enum-told7 .given .1) (c .ruled7 .ensures ∙ rw (c .before .enum-told7 .given .1))
-
-returns-9 : tie.Need-returns-9
-unfolding judgedAnswer
-returns-9 c = rw (sym (c .before .before .before .before .judge .ensures) ∙ c .before .before .judged2 .given .1) (c .delivered .ensures)
-
-pub mrz-judge-spec : {M : Type 1} → statement M
-mrz-judge-spec =
-    tie.close
-    (tie.spec
-    judge-requires
-    enum-known-judged
-    refusal-number-requires
-    enum-told
-    ruled-requires
-    enum-told-2
-    ruled-requires-2
-    enum-told-3
-    ruled-requires-3
-    enum-told-4
-    ruled-requires-4
-    enum-told-5
-    ruled-requires-5
-    enum-told-6
-    ruled-requires-6
-    enum-told-7
-    ruled-requires-7
-    enum-known-judged-2
-    delivered-requires
-    returns
-    returns-2
-    returns-3
-    returns-4
-    returns-5
-    returns-6
-    returns-7
-    returns-8
-    returns-9)
+pub mrz-judge-spec : {M : Type 1} → stated.statement M
+unfolding code.routine
+mrz-judge-spec 𝓤 H 𝓜 𝓖 𝓡 = meets-passing given (plain (λ _. Z.the-row)) Claimed 𝓤 H 𝓜 𝓖 𝓡 code.env #f code.function (code.unfolded 𝓤 H 𝓜 𝓡) (λ fm κs qs a fit.
+    let A = 𝓖 .A in
+    let W = givenOf 𝓤 H 𝓜 𝓖 in
+    let limits = a .1 .0 in
+    let frame = a .1 .1 .0 in
+    let Frame = ShrSlice (named 1) (κs .1 .0) u8 .own frame (slice-vals frame) in
+    enter ! (tables 𝓤 H 𝓜 𝓡 code.env .C) (tables 𝓤 H 𝓜 𝓡 code.env .Λ) code.function _ _ $ alloc1 ! (λ l₀. alloc1 ! (λ l₁. alloc1 ! (λ l₂. alloc1 ! (λ l₃. alloc1 ! (λ l₄. alloc0 ! $
+    params1 ! $ pass1 ! (init ! 6 refl (fit .0)) $ pass1 ! (init ! 4 refl (fit .1 .0)) $ pass1 ! (init ! 2 refl (fit .1 .1 .0)) $ pass0 ! $
+    -- the limits are numbers, and the frame goes to both functions
+    move ! (11 ∷ 10 ∷ []) $ fsplit ! $ move ! (1 ∷ []) $ fsplit ! $ facts ! L.the-row (Is L.the-row) (shows 𝓤 H A L.the-row) limits (LL.vals L.the-type L′.the-laws limits) (λ is.
+    let are = LL.owed L.the-type L′.the-laws limits _ is in
+    fsplit ! $ use1 W (‵ Frame ⊛ ‵ Frame) (shr-slice-copy 𝓤 H A W (named 1) (κs .1 .0) u8 .twice frame _) $ split ! $
+    move ! (0 ∷ 2 ∷ []) $ fjoin ! $ worded ! (limits .«datagram_limit») (are .1 .0) $ worded ! (limits .«stream_limit») (are .0) $ move ! (2 ∷ 0 ∷ []) $ fjoin ! $
+    -- [what is passed; the frame; the tokens; the locals, the last first]
+    move ! (2 ∷ 0 ∷ []) $ calls-ensuring ! fm (passing (rows ∷ framed) (plain (λ _. J.the-row))) Judges (cited 𝓤 H _ 𝓜 𝓡 code.env #judge judge-def.routine code.calls-datagram·judge·judge (judge-thm.met 𝓤 H 𝓜 𝓖 𝓡)) κs qs tt (passed κs a) (values κs (rows ∷ framed) (passed κs a)) refl
+    (and-then ! (load ! (from ! (stop !)) (look ! 8 refl)) (and-then ! (load ! (from ! (fld ! refl (stop !))) (look-in ! 6 (sub ! 0 refl (whole !)))) (and-then ! (load ! (from ! (fld ! refl (stop !))) (look-in ! 6 (sub ! 1 refl (whole !)))) (and-then ! (load ! (from ! (stop !)) (look ! 4 refl)) (no-more !))))) (λ v j ws e j-is.
+    land ! (from ! (stop !)) (init ! 3 refl (EL.lawful J.the-type J′.the-laws 𝓤 H A W tt .typed j _ j-is .0)) $
+    recast W (‵ (flft (κs .0) (qs .0)) ⊛ raw (toks 𝓤 A 1 (κs .1) (qs .1))) refl $ split ! $ nothing ! $ move ! (4 ∷ 0 ∷ []) $ fjoin ! $
+    -- [the frame; the rows' token; the frame's token; what is left; the locals]
+    move ! (2 ∷ 0 ∷ 12 ∷ 13 ∷ []) $ takes-last J.the-row 1 (slots (bytes 0 tt ∷ [])) (plain (λ _. Z.the-row)) Said ! fm (cited 𝓤 H _ 𝓜 𝓡 code.env #say say-def.routine code.calls-capi·frames·judged-answer (say-thm.met 𝓤 H 𝓜 𝓖 𝓡)) (EL.makes J.the-type J′.the-plain 𝓤 H A)
+    (κs .1) (qs .1) j v (frame, tt) (slice-vals frame, tt) refl j-is (λ z u z-is. LL.lawful Z.the-type Z′.the-laws 𝓤 H A W .typed z _ z-is .0) (and-then ! (load ! (from ! (stop !)) (look ! 5 refl)) (and-then ! (load ! (from ! (stop !)) (look ! 7 refl)) (no-more !))) (λ u z _ e′.
+    move ! (11 ∷ 12 ∷ 9 ∷ 10 ∷ 7 ∷ 8 ∷ 5 ∷ 6 ∷ []) $ clears ! $ clears ! $ clears ! $ clears ! $ free0 ! $
+    -- [the frame's token; …; the answer; the rows' token]
+    move ! (3 ∷ 0 ∷ []) $ join ! $ nothing ! $ nothing ! $ fjoin ! $ nothing ! $ fjoin ! $ nothing ! $ fjoin ! $ move ! (1 ∷ 0 ∷ 3 ∷ []) $
+    ends-owning given (plain (λ _. Z.the-row)) Claimed 𝓤 H A W κs qs a ! u z (tt, (tt, (tt, tt))) refl (e′ ∙ ap (judgedAnswer (now frame)) e))))))))))

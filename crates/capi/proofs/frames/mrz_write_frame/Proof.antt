@@ -1,22 +1,29 @@
-use mathlib.Core.Path.{ap}
-use Rattle.capi.specs.Varint.{wroteBy}
-use borrow.Author.Needs.{needs}
-use Rattle.capi.proofs.frames.mrz_write_frame.Statement.{statement}
-use Rattle.capi.proofs.frames.mrz_write_frame.Tie as tie
+-- `mrz_write_frame` meets its contract, by the walk of `Sending`. Assumes nothing.
+use mathlib.Core.Path.{refl}
+use mir.Syntax.{named, imm, w8, tyInt, tyRef}
+use lib.ListN.{length}
+use denote.Ref.{now}
+use denote.Slice.{sliceTy, sliceVal}
+use denote.Triple.Table.{cited}
+use Rattle.walks.proofs.Passing.{bytes}
+use Rattle.datagram.specs.Sending.{writeFrame}
+use Rattle.datagram.proofs.write.write_frame.Symbol as write-def
+use Rattle.datagram.proofs.write.write_frame.Symbol.{name as #write}
+use Rattle.datagram.proofs.write.write_frame.Met as write-thm
+use Rattle.capi.proofs.varint.written_answer.Symbol as say-def
+use Rattle.capi.proofs.varint.written_answer.Symbol.{name as #say}
+use Rattle.capi.proofs.varint.written_answer.Met as say-thm
+use Rattle.capi.proofs.frames.mrz_write_frame.Key.{name as #f}
+use Rattle.capi.proofs.frames.mrz_write_frame.Statement as stated
+use Rattle.capi.proofs.frames.mrz_write_frame.Code as code
+use Rattle.capi.proofs.Sending.{Single, exports-frame}
 
-write-frame-requires : tie.Need-write-frame-requires
-write-frame-requires c κs = search needs
+abbrev payload : Single 3
+payload = record { slot = bytes {n = 3} 1 tt .slot; val = λ κs x. sliceVal (x .ptr) (length (now x)); tells = bytes {n = 3} 1 tt .tells; lawful = λ 𝓤 H A W κs. bytes {n = 3} 1 tt .lawful 𝓤 H A W κs; ty = sliceTy (tyRef (named 1) imm (tyInt w8)); typed = λ κs. refl }
 
-written-answer-requires : tie.Need-written-answer-requires
-written-answer-requires c κs = search needs
-
-same-length : tie.Need-same-length
-same-length c = search needs
-
-returns : tie.Need-returns
-unfolding wroteBy
-returns c = rw (c .written-answer .ensures) (ap wroteBy (c .before .before .before .write-frame .ensures))
-
-pub mrz-write-frame-spec : {M : Type 1} → statement M
-mrz-write-frame-spec =
-    tie.close (tie.spec write-frame-requires written-answer-requires same-length returns)
+pub mrz-write-frame-spec : {M : Type 1} → stated.statement M
+unfolding code.routine
+mrz-write-frame-spec 𝓤 H 𝓜 𝓖 𝓡 =
+    exports-frame payload 2 tt #write #say (λ κs t id ours peers path x out at. writeFrame t id ours peers path (now x) out at) 𝓤 H 𝓜 𝓖 𝓡 code.env #f (code.unfolded 𝓤 H 𝓜 𝓡)
+    (cited 𝓤 H _ 𝓜 𝓡 code.env #write write-def.routine code.calls-datagram·write·write-frame (write-thm.met 𝓤 H 𝓜 𝓖 𝓡))
+    (cited 𝓤 H _ 𝓜 𝓡 code.env #say say-def.routine code.calls-capi·varint·written-answer (say-thm.met 𝓤 H 𝓜 𝓖 𝓡))

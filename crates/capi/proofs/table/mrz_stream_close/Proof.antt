@@ -1,62 +1,47 @@
-use mathlib.Core.Path.{sym, _∙_}
-use Rattle.capi.proofs.TableCalls.{closed-in, close-kept, close-stored}
-use borrow.Author.Needs.{needs}
-use Rattle.capi.proofs.table.mrz_stream_close.Statement.{statement}
-use Rattle.capi.proofs.table.mrz_stream_close.Tie as tie
+-- `mrz_stream_close` meets its contract, by the walk of `Exporting`. Assumes nothing.
+use mathlib.Core.Path.{_≡_}
+use Prim.Native.Nat.{ℕ}
+use denote.Triple.Table.{cited}
+use Rattle.streams.specs.declared.record.Side.{Side}
+use Rattle.streams.specs.declared.table.Closing.{Closing}
+use Rattle.streams.specs.Tables.{Table, closingOf, tableClosed}
+use Rattle.streams.proofs.record.Side as P
+use Rattle.streams.proofs.record.Side.Laws as P′
+use Rattle.streams.proofs.table.Closing as E
+use Rattle.streams.proofs.table.Closing.Laws as E′
+use Rattle.streams.proofs.table.close_side.Symbol as change-def
+use Rattle.streams.proofs.table.close_side.Symbol.{name as #change}
+use Rattle.streams.proofs.table.close_side.Met as change-thm
+use Rattle.capi.specs.declared.table.SideClosedAnswer.{SideClosedAnswer}
+use Rattle.capi.specs.Numbers.{sideOf}
+use Rattle.capi.specs.Table.{streamId, closed, closedAnswer, closeTable}
+use Rattle.capi.proofs.table.SideClosedAnswer as Z
+use Rattle.capi.proofs.table.SideClosedAnswer.Laws as Z′
+use Rattle.capi.proofs.numbers.side_of.Symbol as read-def
+use Rattle.capi.proofs.numbers.side_of.Symbol.{name as #read}
+use Rattle.capi.proofs.numbers.side_of.Met as read-thm
+use Rattle.capi.proofs.table.closed_answer.Symbol as say-def
+use Rattle.capi.proofs.table.closed_answer.Symbol.{name as #say}
+use Rattle.capi.proofs.table.closed_answer.Met as say-thm
+use Rattle.capi.proofs.table.mrz_stream_close.Key.{name as #f}
+use Rattle.capi.proofs.table.mrz_stream_close.Statement as stated
+use Rattle.capi.proofs.table.mrz_stream_close.Code as code
+use Rattle.capi.proofs.Exporting.{exports-change}
+use Rattle.capi.proofs.Crossing.{structure, choice}
 
-side-of-requires : tie.Need-side-of-requires
-side-of-requires c κs = search needs
+together : (t t′ : Table) (id x : ℕ) (s : Side) (c : Closing) (r : SideClosedAnswer)
+    → s ≡ sideOf x
+    → (c ≡ closingOf t (streamId id) s) × (t′ ≡ tableClosed t s c)
+    → r ≡ closedAnswer c
+    → closed r t′ ≡ closeTable t id x
+unfolding closeTable
+together t t′ id x s c r e-side e-close e-say = rw (e-say, e-close .1, e-close .0, e-side)
 
-decide-close-requires : tie.Need-decide-close-requires
-decide-close-requires c κs = search needs
-
-enum-known-why : tie.Need-enum-known-why
-enum-known-why c = search needs
-
-refusal-number-requires : tie.Need-refusal-number-requires
-refusal-number-requires c κs = search needs
-
-enum-known-place : tie.Need-enum-known-place
-enum-known-place c = search needs
-
-store-record-requires : tie.Need-store-record-requires
-store-record-requires c κs = closed-in _ _ _ _ _ _ _ (sym (c .before .before .before .before .before .decide-close .ensures) ∙ c .before .before .before .place .given .1)
-
-bit-of-requires : tie.Need-bit-of-requires
-bit-of-requires c κs = search needs
-
-same-length : tie.Need-same-length
-same-length c = search needs
-
-same-length-2 : tie.Need-same-length-2
-same-length-2 c = search needs
-
-returns : tie.Need-returns
-returns c = close-kept _ _ _ _ _ _ (c .before .before .before .before .before .side-of .ensures) (c .before .before .before .before .decide-close .ensures) _ _ (c .before .before .why .given .1) (c .refusal-number .ensures)
-
-same-length-3 : tie.Need-same-length-3
-same-length-3 c = search needs
-
-same-length-4 : tie.Need-same-length-4
-same-length-4 c = search needs
-
-returns-2 : tie.Need-returns-2
-returns-2 c = close-stored _ _ _ _ _ _ (c .before .before .before .before .before .before .before .before .before .before .before .before .side-of .ensures) (c .before .before .before .before .before .before .before .before .before .before .before .decide-close .ensures) _ _ _ _ _ (c .before .before .before .before .before .before .before .before .before .place .given .1) (c .bit-of .ensures) (c .before .before .before .before .before .store-record .ensures)
-
-pub mrz-stream-close-spec : {M : Type 1} → statement M
-mrz-stream-close-spec =
-    tie.close
-    (tie.spec
-    side-of-requires
-    decide-close-requires
-    enum-known-why
-    refusal-number-requires
-    enum-known-place
-    store-record-requires
-    bit-of-requires
-    same-length
-    same-length-2
-    returns
-    same-length-3
-    same-length-4
-    returns-2)
+pub mrz-stream-close-spec : {M : Type 1} → stated.statement M
+unfolding code.routine
+mrz-stream-close-spec 𝓤 H 𝓜 𝓖 𝓡 =
+    exports-change (choice P.the-type P′.the-laws tt P′.the-plain) (choice E.the-type E′.the-laws tt E′.the-plain) (structure Z.the-type Z′.the-laws Z′.the-plain) #read #change #say
+    (λ x s. s ≡ sideOf x) (λ t id s c t′. (c ≡ closingOf t id s) × (t′ ≡ tableClosed t s c)) (λ c r. r ≡ closedAnswer c) (λ t id x r t′. closed r t′ ≡ closeTable t id x) together 𝓤 H 𝓜 𝓖 𝓡 code.env #f (code.unfolded 𝓤 H 𝓜 𝓡)
+    (cited 𝓤 H _ 𝓜 𝓡 code.env #read read-def.routine code.calls-capi·numbers·side-of (read-thm.met 𝓤 H 𝓜 𝓖 𝓡))
+    (cited 𝓤 H _ 𝓜 𝓡 code.env #change change-def.routine code.calls-streams·table·close-side (change-thm.met 𝓤 H 𝓜 𝓖 𝓡))
+    (cited 𝓤 H _ 𝓜 𝓡 code.env #say say-def.routine code.calls-capi·table·closed-answer (say-thm.met 𝓤 H 𝓜 𝓖 𝓡))

@@ -1,94 +1,45 @@
-use mathlib.Core.Path.{sym, _∙_}
-use Rattle.capi.proofs.TableCalls.{opened-in, open-kept, open-no-request, open-stored}
-use borrow.Author.Needs.{needs}
-use Rattle.capi.proofs.table.mrz_stream_open.Statement.{statement}
-use Rattle.capi.proofs.table.mrz_stream_open.Tie as tie
+-- `mrz_stream_open` meets its contract, by the walk of `Exporting`. Assumes nothing.
+use mathlib.Core.Path.{_≡_}
+use mathlib.Core.Bool.{Bool}
+use Prim.Native.Nat.{ℕ}
+use denote.Triple.Table.{cited}
+use Rattle.streams.specs.declared.table.Opening.{Opening}
+use Rattle.streams.specs.Tables.{Table, openingOf, tableOpened}
+use Rattle.streams.proofs.table.Opening as E
+use Rattle.streams.proofs.table.Opening.Laws as E′
+use Rattle.streams.proofs.table.open_stream.Symbol as change-def
+use Rattle.streams.proofs.table.open_stream.Symbol.{name as #change}
+use Rattle.streams.proofs.table.open_stream.Met as change-thm
+use Rattle.capi.specs.declared.table.OpenedAnswer.{OpenedAnswer}
+use Rattle.capi.specs.Numbers.{flagOf}
+use Rattle.capi.specs.Table.{streamId, opened, openedAnswer, openTable}
+use Rattle.capi.proofs.table.OpenedAnswer as Z
+use Rattle.capi.proofs.table.OpenedAnswer.Laws as Z′
+use Rattle.capi.proofs.numbers.flag_of.Symbol as read-def
+use Rattle.capi.proofs.numbers.flag_of.Symbol.{name as #read}
+use Rattle.capi.proofs.numbers.flag_of.Met as read-thm
+use Rattle.capi.proofs.table.opened_answer.Symbol as say-def
+use Rattle.capi.proofs.table.opened_answer.Symbol.{name as #say}
+use Rattle.capi.proofs.table.opened_answer.Met as say-thm
+use Rattle.capi.proofs.table.mrz_stream_open.Key.{name as #f}
+use Rattle.capi.proofs.table.mrz_stream_open.Statement as stated
+use Rattle.capi.proofs.table.mrz_stream_open.Code as code
+use Rattle.capi.proofs.Exporting.{exports-change}
+use Rattle.capi.proofs.Crossing.{structure, choice, flag}
 
-decide-open-requires : tie.Need-decide-open-requires
-decide-open-requires c κs = search needs
+together : (t t′ : Table) (id x : ℕ) (semantics : Bool) (o : Opening) (r : OpenedAnswer)
+    → semantics ≡ flagOf x
+    → (o ≡ openingOf t (streamId id)) × (t′ ≡ tableOpened t (streamId id) semantics o)
+    → r ≡ openedAnswer o
+    → opened r t′ ≡ openTable t id x
+unfolding openTable
+together t t′ id x semantics o r e-flag e-open e-say = rw (e-say, e-open .1, e-open .0, e-flag)
 
-enum-known-why : tie.Need-enum-known-why
-enum-known-why c = search needs
-
-refusal-number-requires : tie.Need-refusal-number-requires
-refusal-number-requires c κs = search needs
-
-enum-known-place : tie.Need-enum-known-place
-enum-known-place c = search needs
-
-quarter-requires : tie.Need-quarter-requires
-quarter-requires c κs = search needs
-
-enum-told : tie.Need-enum-told
-enum-told c = search needs
-
-opened-at-requires : tie.Need-opened-at-requires
-opened-at-requires c κs = search needs
-
-enum-known-quarter : tie.Need-enum-known-quarter
-enum-known-quarter c = search needs
-
-flag-of-requires : tie.Need-flag-of-requires
-flag-of-requires c κs = search needs
-
-open-requires : tie.Need-open-requires
-open-requires c κs = search needs
-
-store-record-requires : tie.Need-store-record-requires
-store-record-requires c κs = opened-in _ _ _ _ (sym (c .before .before .before .before .before .before .before .before .before .before .before .decide-open .ensures) ∙ c .before .before .before .before .before .before .before .before .before .place .given .1)
-
-opened-at-requires-2 : tie.Need-opened-at-requires-2
-opened-at-requires-2 c κs = search needs
-
-same-length : tie.Need-same-length
-same-length c = search needs
-
-same-length-2 : tie.Need-same-length-2
-same-length-2 c = search needs
-
-returns : tie.Need-returns
-returns c = open-kept _ _ _ _ _ (c .before .before .before .before .decide-open .ensures) _ _ (c .before .before .why .given .1) (c .refusal-number .ensures)
-
-same-length-3 : tie.Need-same-length-3
-same-length-3 c = search needs
-
-same-length-4 : tie.Need-same-length-4
-same-length-4 c = search needs
-
-returns-2 : tie.Need-returns-2
-returns-2 c = open-no-request _ _ _ _ _ (c .before .before .before .before .before .before .before .decide-open .ensures) _ _ (c .before .before .before .before .before .place .given .1) (c .opened-at .ensures) (sym (c .before .before .before .quarter .ensures) ∙ c .before .enum-told .given .1)
-
-same-length-5 : tie.Need-same-length-5
-same-length-5 c = search needs
-
-same-length-6 : tie.Need-same-length-6
-same-length-6 c = search needs
-
-returns-3 : tie.Need-returns-3
-returns-3 c = open-stored _ _ _ _ _ (c .before .before .before .before .before .before .before .before .before .before .before .before .before .before .before .before .before .decide-open .ensures) _ _ (c .before .before .before .before .before .before .before .before .before .before .before .before .before .before .before .place .given .1) (c .opened-at2 .ensures) _ _ _ _ (sym (c .before .before .before .before .before .before .before .before .before .before .before .before .before .quarter .ensures) ∙ c .before .before .before .before .before .before .before .before .before .before .before .quarter2 .given .1) (c .before .before .before .before .before .before .before .before .before .flag-of .ensures) (c .before .before .before .before .before .before .before .before .«open» .ensures) (c .before .before .before .before .before .store-record .ensures)
-
-pub mrz-stream-open-spec : {M : Type 1} → statement M
-mrz-stream-open-spec =
-    tie.close
-    (tie.spec
-    decide-open-requires
-    enum-known-why
-    refusal-number-requires
-    enum-known-place
-    quarter-requires
-    enum-told
-    opened-at-requires
-    enum-known-quarter
-    flag-of-requires
-    open-requires
-    store-record-requires
-    opened-at-requires-2
-    same-length
-    same-length-2
-    returns
-    same-length-3
-    same-length-4
-    returns-2
-    same-length-5
-    same-length-6
-    returns-3)
+pub mrz-stream-open-spec : {M : Type 1} → stated.statement M
+unfolding code.routine
+mrz-stream-open-spec 𝓤 H 𝓜 𝓖 𝓡 =
+    exports-change flag (choice E.the-type E′.the-laws tt E′.the-plain) (structure Z.the-type Z′.the-laws Z′.the-plain) #read #change #say
+    (λ x s. s ≡ flagOf x) (λ t id s o t′. (o ≡ openingOf t id) × (t′ ≡ tableOpened t id s o)) (λ o r. r ≡ openedAnswer o) (λ t id x r t′. opened r t′ ≡ openTable t id x) together 𝓤 H 𝓜 𝓖 𝓡 code.env #f (code.unfolded 𝓤 H 𝓜 𝓡)
+    (cited 𝓤 H _ 𝓜 𝓡 code.env #read read-def.routine code.calls-capi·numbers·flag-of (read-thm.met 𝓤 H 𝓜 𝓖 𝓡))
+    (cited 𝓤 H _ 𝓜 𝓡 code.env #change change-def.routine code.calls-streams·table·open-stream (change-thm.met 𝓤 H 𝓜 𝓖 𝓡))
+    (cited 𝓤 H _ 𝓜 𝓡 code.env #say say-def.routine code.calls-capi·table·opened-answer (say-thm.met 𝓤 H 𝓜 𝓖 𝓡))

@@ -1,21 +1,17 @@
-use Rattle.datagram.specs.Judging.{askedIn}
+-- `asked`, by what is read at the front of the frame. Assumes nothing.
+use mathlib.Core.Path.{sym, _∙_}
+use Rattle.datagram.specs.Code.{askedIn}
 use borrow.Author.Needs.{needs}
 use Rattle.datagram.proofs.judge.asked.Statement.{statement}
 use Rattle.datagram.proofs.judge.asked.Tie as tie
 
-enum-told : tie.Need-enum-told
-enum-told c = search needs
-
-enum-known-read : tie.Need-enum-known-read
-enum-known-read c = search needs
-
-returns : tie.Need-returns
-unfolding askedIn
-returns c = rw (c .enum-told .given .1)
-
-returns-2 : tie.Need-returns-2
-unfolding askedIn
-returns-2 c = rw (c .before .read .given .1)
-
 pub asked-spec : {M : Type 1} → statement M
-asked-spec = tie.close (tie.spec enum-told enum-known-read returns returns-2)
+unfolding askedIn
+asked-spec =
+    tie.close
+    (tie.spec
+    (λ c κs. search needs)
+    (λ c. search needs)
+    (λ c. search needs)
+    (λ c. rw (sym (c .before .before .read-varint .ensures) ∙ c .enum-told .given .1))
+    (λ c. rw (sym (c .before .before .before .read-varint .ensures) ∙ c .before .value .given .1)))

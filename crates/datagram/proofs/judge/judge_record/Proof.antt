@@ -1,27 +1,19 @@
+-- `judge_record`, by two flags and the limit. Assumes nothing.
+use mathlib.Core.Path.{sym, _∙_}
 use borrow.Author.Tests.{not-true, not-false, le-leb, lt-leb}
 use Rattle.datagram.specs.Judging.{judgedRecord}
+use borrow.Author.Needs.{needs}
 use Rattle.datagram.proofs.judge.judge_record.Statement.{statement}
 use Rattle.datagram.proofs.judge.judge_record.Tie as tie
 
-returns : tie.Need-returns
-unfolding judgedRecord
-returns c = rw (not-true (c .before .before .args .r .receive) (c .if1 .taken))
-
-returns-2 : tie.Need-returns-2
-unfolding judgedRecord
-returns-2 c = rw (not-false (c .before .before .before .before .args .r .receive) (c .before .before .if1 .left), not-true (c .before .before .before .before .args .r .semantics) (c .if2 .taken))
-
-returns-3 : tie.Need-returns-3
-unfolding judgedRecord
-returns-3 c =
-    let entry = c .before .before .before .before .before in
-    rw (not-false (entry .args .r .receive) (c .before .before .before .if1 .left), not-false (entry .args .r .semantics) (c .before .if2 .left), lt-leb (entry .args .rest) (entry .args .limit) (c .if3 .taken))
-
-returns-4 : tie.Need-returns-4
-unfolding judgedRecord
-returns-4 c =
-    let entry = c .before .before .before .before .before in
-    rw (not-false (entry .args .r .receive) (c .before .before .before .if1 .left), not-false (entry .args .r .semantics) (c .before .if2 .left), le-leb (entry .args .rest) (entry .args .limit) (c .if3 .left))
-
 pub judge-record-spec : {M : Type 1} → statement M
-judge-record-spec = tie.close (tie.spec returns returns-2 returns-3 returns-4)
+unfolding judgedRecord
+judge-record-spec =
+    tie.close
+    (tie.spec
+    (λ c κs. search needs)
+    (λ c. rw (sym (c .before .receive-open .ensures) ∙ not-true _ (c .if1 .taken)))
+    (λ c κs. search needs)
+    (λ c. rw (sym (c .before .before .before .receive-open .ensures) ∙ not-false _ (c .before .before .if1 .left), sym (c .before .has-semantics .ensures) ∙ not-true _ (c .if2 .taken)))
+    (λ c. rw (sym (c .before .before .before .before .receive-open .ensures) ∙ not-false _ (c .before .before .before .if1 .left), sym (c .before .before .has-semantics .ensures) ∙ not-false _ (c .before .if2 .left), lt-leb _ _ (c .if3 .taken)))
+    (λ c. rw (sym (c .before .before .before .before .receive-open .ensures) ∙ not-false _ (c .before .before .before .if1 .left), sym (c .before .before .has-semantics .ensures) ∙ not-false _ (c .before .if2 .left), le-leb _ _ (c .if3 .left))))

@@ -16,7 +16,7 @@ use Rattle.host.proofs.reader.close_by_value.Statement as stated
 use Rattle.host.proofs.reader.close_by_value.Code as code
 use Rattle.host.proofs.AdaptedClose.{adapted}
 use Rattle.host.proofs.Facts.{Closes}
-use Rattle.host.proofs.Plain.{reader-struct}
+use Rattle.host.proofs.Structs.{reader-struct}
 
 pub close-by-value-spec : {M : Type 1} → stated.statement M
 unfolding code.routine

@@ -29,12 +29,12 @@ use Rattle.host.proofs.reader.close_connection.Key.{name as #f}
 use Rattle.host.proofs.reader.close_connection as f
 use Rattle.host.proofs.reader.close_connection.Statement as stated
 use Rattle.host.proofs.reader.close_connection.Code as code
-use Rattle.host.proofs.Beside.{alone}
-use Rattle.host.proofs.Calling.{Ensures}
+use Rattle.walks.proofs.Beside.{alone}
+use Rattle.walks.proofs.Calling.{Ensures}
 use Rattle.host.proofs.Facts.{Closes}
-use Rattle.host.proofs.InPlace.{placed, EntryInPlace, OwedInPlace, calls-in-place, ends-in-place, meets-in-place}
+use Rattle.walks.proofs.InPlace.{placed, EntryInPlace, OwedInPlace, calls-in-place, ends-in-place, meets-in-place}
 use Rattle.host.proofs.ReaderField.{d, with-reader, lends-reader, reader-back}
-use Rattle.host.proofs.Plain.{reader-struct, connection-struct}
+use Rattle.host.proofs.Structs.{reader-struct, connection-struct}
 
 module _ {M : Type 1} (𝓤 : URA M) (H : Heap 𝓤) (A : Atoms 𝓤) (W : Given 𝓤 H A) (at-mem : Memory → SProp 𝓤) (run : Routine → Fun 𝓤) (C : Calls 𝓤 H) (Λ : Loops 𝓤 H) (fm : FmC 𝓤 H (W .laws) C) (known : Triple 𝓤 (C #g) (Ensures (placed reader-struct E.the-row 0 (alone 1)) Closes 𝓤 H A)) (κs : Lfts 1) (qs : Shares 1) (b o : ℕ) (γ : GName) (h : Connection) where
   walk : Sq W (EntryInPlace connection-struct E.the-row 0 (alone 1) 𝓤 H A W (f.clauses 𝓤 H A at-mem run) κs qs b o γ h tt tt)

@@ -15,7 +15,7 @@ use Rattle.host.proofs.reader.close_connection_by_value.Statement as st
 use Rattle.host.proofs.reader.close_connection_by_value.Code as code
 use Rattle.host.proofs.AdaptedClose.{adapted}
 use Rattle.host.proofs.Facts.{ClosesIn}
-use Rattle.host.proofs.Plain.{connection-struct}
+use Rattle.host.proofs.Structs.{connection-struct}
 
 pub close-connection-by-value-spec : {M : Type 1} → stated.statement M
 unfolding code.routine

@@ -35,13 +35,14 @@ use Rattle.host.proofs.reader.close_in_place.Key.{name as #f}
 use Rattle.host.proofs.reader.close_in_place as f
 use Rattle.host.proofs.reader.close_in_place.Statement as stated
 use Rattle.host.proofs.reader.close_in_place.Code as code
-use Rattle.host.proofs.Calling.{Ensures}
-use Rattle.host.proofs.ByValue.{valued, calls-by-value}
-use Rattle.host.proofs.Lending.{opens-struct, closes-struct}
-use Rattle.host.proofs.Beside.{alone}
+use Rattle.walks.proofs.Calling.{Ensures}
+use Rattle.walks.proofs.ByValue.{valued, calls-by-value}
+use Rattle.walks.proofs.Lending.{opens-struct, closes-struct}
+use Rattle.walks.proofs.Beside.{alone}
 use Rattle.host.proofs.Facts.{ClosesValue}
-use Rattle.host.proofs.InPlace.{EntryInPlace, OwedInPlace, ends-in-place, meets-in-place}
-use Rattle.host.proofs.Plain.{reader-struct, typedOf}
+use Rattle.walks.proofs.InPlace.{EntryInPlace, OwedInPlace, ends-in-place, meets-in-place}
+use Rattle.walks.proofs.Plain.{typedOf}
+use Rattle.host.proofs.Structs.{reader-struct}
 
 module _ {M : Type 1} (𝓤 : URA M) (H : Heap 𝓤) (A : Atoms 𝓤) (W : Given 𝓤 H A) (at-mem : Memory → SProp 𝓤) (run : Routine → Fun 𝓤) (C : Calls 𝓤 H) (Λ : Loops 𝓤 H) (fm : FmC 𝓤 H (W .laws) C) (known : Triple 𝓤 (C #g) (Ensures (valued reader-struct P.the-row 0 (alone 0)) ClosesValue 𝓤 H A)) (κs : Lfts 1) (qs : Shares 1) (b o : ℕ) (γ : GName) (h : Reader) where
   walk : Sq W (EntryInPlace reader-struct E.the-row 0 (alone 1) 𝓤 H A W (f.clauses 𝓤 H A at-mem run) κs qs b o γ h tt tt)

@@ -15,7 +15,7 @@ use Rattle.host.proofs.reader.feed_by_value.Statement as stated
 use Rattle.host.proofs.reader.feed_by_value.Code as code
 use Rattle.host.proofs.AdaptedFeed.{adapted}
 use Rattle.host.proofs.Facts.{Feeds}
-use Rattle.host.proofs.Plain.{reader-struct}
+use Rattle.host.proofs.Structs.{reader-struct}
 
 pub feed-by-value-spec : {M : Type 1} → stated.statement M
 unfolding code.routine

@@ -34,13 +34,13 @@ use Rattle.host.proofs.reader.feed_connection.Key.{name as #f}
 use Rattle.host.proofs.reader.feed_connection as f
 use Rattle.host.proofs.reader.feed_connection.Statement as stated
 use Rattle.host.proofs.reader.feed_connection.Code as code
-use Rattle.host.proofs.Beside.{four-of-five, others-fit}
-use Rattle.host.proofs.Calling.{Ensures}
+use Rattle.walks.proofs.Beside.{four-of-five, others-fit}
+use Rattle.walks.proofs.Calling.{Ensures}
 use Rattle.host.proofs.Facts.{Feeds}
-use Rattle.host.proofs.InPlace.{placed, EntryInPlace, OwedInPlace, calls-in-place, ends-in-place, meets-in-place}
-use Rattle.host.proofs.Lying.{sv}
+use Rattle.walks.proofs.InPlace.{placed, EntryInPlace, OwedInPlace, calls-in-place, ends-in-place, meets-in-place}
+use Rattle.walks.proofs.Lying.{sv}
 use Rattle.host.proofs.ReaderField.{d, with-reader, lends-reader, reader-back}
-use Rattle.host.proofs.Plain.{reader-struct, connection-struct}
+use Rattle.host.proofs.Structs.{reader-struct, connection-struct}
 
 module _ {M : Type 1} (𝓤 : URA M) (H : Heap 𝓤) (A : Atoms 𝓤) (W : Given 𝓤 H A) (at-mem : Memory → SProp 𝓤) (run : Routine → Fun 𝓤) (C : Calls 𝓤 H) (Λ : Loops 𝓤 H) (fm : FmC 𝓤 H (W .laws) C) (known : Triple 𝓤 (C #g) (Ensures (placed reader-struct E.the-row 4 four-of-five) Feeds 𝓤 H A)) (κs : Lfts 5) (qs : Shares 5) (b o : ℕ) (γ : GName) (h : Connection) (p s z w : RefT (List ℕ)) where
   walk : Typed (mirs (typesAt (four-of-five .slots) κs)) (sv p ∷ sv s ∷ sv z ∷ sv w ∷ [])

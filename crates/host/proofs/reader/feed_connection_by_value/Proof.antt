@@ -15,7 +15,7 @@ use Rattle.host.proofs.reader.feed_connection_by_value.Statement as sta
 use Rattle.host.proofs.reader.feed_connection_by_value.Code as code
 use Rattle.host.proofs.AdaptedFeed.{adapted}
 use Rattle.host.proofs.Facts.{FeedsIn}
-use Rattle.host.proofs.Plain.{connection-struct}
+use Rattle.host.proofs.Structs.{connection-struct}
 
 pub feed-connection-by-value-spec : {M : Type 1} → stated.statement M
 unfolding code.routine

@@ -39,14 +39,15 @@ use Rattle.host.proofs.reader.feed_in_place.Key.{name as #f}
 use Rattle.host.proofs.reader.feed_in_place as f
 use Rattle.host.proofs.reader.feed_in_place.Statement as stated
 use Rattle.host.proofs.reader.feed_in_place.Code as code
-use Rattle.host.proofs.Beside.{four, four-of-five, others-fit}
-use Rattle.host.proofs.ByValue.{valued, calls-by-value}
-use Rattle.host.proofs.Calling.{Ensures}
+use Rattle.walks.proofs.Beside.{four, four-of-five, others-fit}
+use Rattle.walks.proofs.ByValue.{valued, calls-by-value}
+use Rattle.walks.proofs.Calling.{Ensures}
 use Rattle.host.proofs.Facts.{FeedsValue}
-use Rattle.host.proofs.InPlace.{EntryInPlace, OwedInPlace, ends-in-place, meets-in-place}
-use Rattle.host.proofs.Lending.{opens-struct, closes-struct}
-use Rattle.host.proofs.Lying.{sv}
-use Rattle.host.proofs.Plain.{reader-struct, typedOf}
+use Rattle.walks.proofs.InPlace.{EntryInPlace, OwedInPlace, ends-in-place, meets-in-place}
+use Rattle.walks.proofs.Lending.{opens-struct, closes-struct}
+use Rattle.walks.proofs.Lying.{sv}
+use Rattle.walks.proofs.Plain.{typedOf}
+use Rattle.host.proofs.Structs.{reader-struct}
 
 module _ {M : Type 1} (𝓤 : URA M) (H : Heap 𝓤) (A : Atoms 𝓤) (W : Given 𝓤 H A) (at-mem : Memory → SProp 𝓤) (run : Routine → Fun 𝓤) (C : Calls 𝓤 H) (Λ : Loops 𝓤 H) (fm : FmC 𝓤 H (W .laws) C) (known : Triple 𝓤 (C #g) (Ensures (valued reader-struct P.the-row 4 four) FeedsValue 𝓤 H A)) (κs : Lfts 5) (qs : Shares 5) (b o : ℕ) (γ : GName) (h : Reader) (p s z w : RefT (List ℕ)) where
   walk : Typed (mirs (typesAt (four-of-five .slots) κs)) (sv p ∷ sv s ∷ sv z ∷ sv w ∷ [])

@@ -1,38 +1,22 @@
-use Rattle.streams.proofs.Reading.{twice-not}
-use borrow.Author.Tests.{lt-ltb, le-ltb, eq-eqb, ne-eqb}
+-- `StreamRecord::is_bad`, by the ways in which `Flags` has a record bad. Assumes nothing.
+use mathlib.Core.Path.{sym, ap, _∙_}
+use mathlib.Core.Bool.{true, false, not}
 use Rattle.wire.specs.Units.{largestQuarter}
-use Rattle.streams.specs.Records.{isBadRecord, isBlank, bothClosed}
+use Rattle.streams.proofs.Flags.{quarter-large, free-bad, sides-bad}
+use borrow.Author.Needs.{needs}
 use Rattle.streams.proofs.record.StreamRecord.is_bad.Statement.{statement}
 use Rattle.streams.proofs.record.StreamRecord.is_bad.Tie as tie
 
-returns : tie.Need-returns
-unfolding isBadRecord isBlank bothClosed largestQuarter
-returns c = rw (c .before .before .if1 .taken, lt-ltb largestQuarter _ (c .if2 .taken))
-
-returns-2 : tie.Need-returns-2
-unfolding isBadRecord isBlank bothClosed largestQuarter
-returns-2 c = rw (c .before .before .before .if1 .taken, le-ltb largestQuarter _ (c .before .if2 .left), c .if3 .taken)
-
-returns-3 : tie.Need-returns-3
-unfolding isBadRecord isBlank bothClosed largestQuarter
-returns-3 c = rw (c .before .before .before .before .if1 .taken, le-ltb largestQuarter _ (c .before .before .if2 .left), c .before .if3 .left)
-
-returns-4 : tie.Need-returns-4
-unfolding isBadRecord isBlank bothClosed largestQuarter
-returns-4 c = rw (c .before .if1 .left, ne-eqb _ 0 (c .if4 .taken))
-
-returns-5 : tie.Need-returns-5
-unfolding isBadRecord isBlank bothClosed largestQuarter
-returns-5 c = rw (c .before .before .if1 .left, eq-eqb _ 0 (c .before .if4 .left), c .if5 .taken)
-
-returns-6 : tie.Need-returns-6
-unfolding isBadRecord isBlank bothClosed largestQuarter
-returns-6 c = rw (c .before .before .before .if1 .left, eq-eqb _ 0 (c .before .before .if4 .left), c .before .if5 .left, c .if6 .taken)
-
-returns-7 : tie.Need-returns-7
-unfolding isBadRecord isBlank bothClosed largestQuarter
-returns-7 c = rw (c .before .before .before .if1 .left, eq-eqb _ 0 (c .before .before .if4 .left), c .before .if5 .left, c .if6 .left) (twice-not _)
-
 pub is-bad-spec : {M : Type 1} → statement M
+unfolding largestQuarter
 is-bad-spec =
-    tie.close (tie.spec returns returns-2 returns-3 returns-4 returns-5 returns-6 returns-7)
+    tie.close
+    (tie.spec
+    (λ c κs. search needs)
+    (λ c. quarter-large _ (sym (c .before .before .before .is-used .ensures) ∙ c .before .before .if1 .taken) (c .if2 .taken))
+    (λ c κs. search needs)
+    (λ c. sides-bad _ (sym (c .before .before .before .before .before .is-used .ensures) ∙ c .before .before .before .before .if1 .taken) (c .before .before .if2 .left) true (sym (c .before .receive-open .ensures) ∙ c .if3 .taken))
+    (λ c κs. search needs)
+    (λ c. ap not (c .send-open .ensures) ∙ sides-bad _ (sym (c .before .before .before .before .before .before .is-used .ensures) ∙ c .before .before .before .before .before .if1 .taken) (c .before .before .before .if2 .left) false (sym (c .before .before .receive-open .ensures) ∙ c .before .if3 .left))
+    (λ c κs. search needs)
+    (λ c. ap not (c .is-blank .ensures) ∙ sym (free-bad _ (sym (c .before .before .is-used .ensures) ∙ c .before .if1 .left))))

@@ -1,21 +1,25 @@
+-- `StreamRecord::with_closed`, by a flag that is clear already, or is cleared by a difference that does not wrap. Assumes nothing.
+use mathlib.Core.Path.{sym, _∙_}
+use native.Mathlib.Omega.{arith}
+use borrow.Author.Tests.{not-true, not-false}
 use Rattle.streams.specs.Records.{withClosed}
+use Rattle.streams.proofs.Flags.{clear-already, cleared, set-odd}
 use borrow.Author.Needs.{needs}
 use Rattle.streams.proofs.record.StreamRecord.with_closed.Statement.{statement}
 use Rattle.streams.proofs.record.StreamRecord.with_closed.Tie as tie
 
-enum-told : tie.Need-enum-told
-enum-told c = search needs
-
-enum-told-2 : tie.Need-enum-told-2
-enum-told-2 c = search needs
-
-returns : tie.Need-returns
-unfolding withClosed
-returns c = rw (c .enum-told .given .1)
-
-returns-2 : tie.Need-returns-2
-unfolding withClosed
-returns-2 c = rw (c .enum-told2 .given .1)
-
 pub with-closed-spec : {M : Type 1} → statement M
-with-closed-spec = tie.close (tie.spec enum-told enum-told-2 returns returns-2)
+unfolding withClosed
+with-closed-spec =
+    tie.close
+    (tie.spec
+    (λ c. search needs)
+    (λ c κs. search needs)
+    (λ c. rw (c .before .before .enum-told .given .1) (sym (clear-already 2 _ (sym (c .before .receive-open .ensures) ∙ not-true _ (c .if1 .taken)))))
+    (λ c. omega (arith, set-odd 2 _ (sym (c .before .before .receive-open .ensures) ∙ not-false _ (c .before .if1 .left))))
+    (λ c. search needs)
+    (λ c κs. search needs)
+    (λ c. rw (c .before .before .enum-told2 .given .1) (sym (clear-already 4 _ (sym (c .before .send-open .ensures) ∙ not-true _ (c .if2 .taken)))))
+    (λ c. omega (arith, set-odd 4 _ (sym (c .before .before .send-open .ensures) ∙ not-false _ (c .before .if2 .left))))
+    (λ c. rw (c .before .before .before .enum-told .given .1) (cleared 2 _ (sym (c .before .before .receive-open .ensures) ∙ not-false _ (c .before .if1 .left))))
+    (λ c. rw (c .before .before .before .enum-told2 .given .1) (cleared 4 _ (sym (c .before .before .send-open .ensures) ∙ not-false _ (c .before .if2 .left)))))

@@ -1,0 +1,72 @@
+-- `mrz_stream_find` meets its contract, by a walk of its code: the rows and the stream ID go to `find_stream`, and its answer is made numbers. Assumes nothing.
+use mathlib.Core.Path.{_≡_, refl, ap, _∙_}
+use mathlib.Core.List.{List, [], _∷_}
+use contract.Lifetimes.{Lfts}
+use contract.Running.{givenOf, tables}
+use types.Kit.{_$_, !, move}
+use types.Part.{agg}
+use types.Run.{look, init, stop, from, load, and-then, no-more, assigns, enter, alloc1, alloc0, params1, pass1, pass0, free0}
+use denote.RattleType.{Denots}
+use denote.Ref.{now}
+use denote.Signature.{plain, typesAt}
+use denote.Struct.Laws as LL
+use denote.Triple.Table.{cited}
+use Rattle.wire.proofs.units.StreamId as N
+use Rattle.wire.proofs.units.StreamId.Laws as N′
+use Rattle.streams.specs.Tables.{standingOf}
+use Rattle.streams.proofs.Answering.{identifier, rows}
+use Rattle.streams.proofs.table.Standing as Y
+use Rattle.streams.proofs.table.Standing.Laws as Y′
+use Rattle.streams.proofs.table.find_stream.Symbol as find-def
+use Rattle.streams.proofs.table.find_stream.Symbol.{name as #find}
+use Rattle.streams.proofs.table.find_stream.Met as find-thm
+use Rattle.walks.proofs.Calling.{Fact}
+use Rattle.walks.proofs.Passing.{Param, word, slots, values, passing, clears, ends-owning, meets-passing}
+use Rattle.capi.specs.Table.{streamId, foundAnswer}
+use Rattle.capi.proofs.table.FoundAnswer as Z
+use Rattle.capi.proofs.table.FoundAnswer.Laws as Z′
+use Rattle.capi.proofs.table.found_answer.Symbol as say-def
+use Rattle.capi.proofs.table.found_answer.Symbol.{name as #say}
+use Rattle.capi.proofs.table.found_answer.Met as say-thm
+use Rattle.capi.proofs.table.mrz_stream_find.Key.{name as #f}
+use Rattle.capi.proofs.table.mrz_stream_find.Statement as stated
+use Rattle.capi.proofs.table.mrz_stream_find.Code as code
+use Rattle.capi.proofs.Crossing.{Data, structure, choice, identifies, called, answers}
+
+abbrev standing : Data
+standing = choice Y.the-type Y′.the-laws tt Y′.the-plain
+
+abbrev found : Data
+found = structure Z.the-type Z′.the-laws Z′.the-plain
+
+abbrev given : List (Param 1)
+given = rows ∷ word ∷ []
+
+abbrev beside : List (Param 1)
+beside = rows ∷ identifier ∷ []
+
+abbrev passed : (κs : Lfts 1) → Denots (typesAt (slots given) κs) → Denots (typesAt (slots beside) κs)
+passed κs a = (a .0, (streamId (a .1 .0), tt))
+
+abbrev Finds : Fact (called 1 (slots beside) standing found)
+Finds κs a r e = r ≡ standingOf (now (a .0)) (a .1 .0)
+
+abbrev Claimed : Fact (passing given (plain (λ _. found .type)))
+Claimed κs a r e = r ≡ foundAnswer (standingOf (now (a .0)) (streamId (a .1 .0)))
+
+pub mrz-stream-find-spec : {M : Type 1} → stated.statement M
+unfolding code.routine
+mrz-stream-find-spec 𝓤 H 𝓜 𝓖 𝓡 = meets-passing given (plain (λ _. found .type)) Claimed 𝓤 H 𝓜 𝓖 𝓡 code.env #f code.function (code.unfolded 𝓤 H 𝓜 𝓡) (λ fm κs qs a fit.
+    let W = givenOf 𝓤 H 𝓜 𝓖 in
+    let id = a .1 .0 in
+    enter ! (tables 𝓤 H 𝓜 𝓡 code.env .C) (tables 𝓤 H 𝓜 𝓡 code.env .Λ) code.function _ _ $ alloc1 ! (λ l₀. alloc1 ! (λ l₁. alloc1 ! (λ l₂. alloc1 ! (λ l₃. alloc1 ! (λ l₄. alloc0 ! $
+    params1 ! $ pass1 ! (init ! 6 refl (fit .0)) $ pass1 ! (init ! 4 refl (fit .1 .0)) $ pass0 ! $
+    move ! (11 ∷ 10 ∷ []) $ identifies ! id (λ id-is.
+    -- [what is passed; the token; the locals, the last first]
+    assigns ! (agg ! (and-then ! (load ! (from ! (stop !)) (look ! 6 refl)) (no-more !))) (from ! (stop !)) (init ! 2 refl (LL.lawful N.the-type N′.the-laws 𝓤 H (𝓖 .A) W .typed (streamId id) _ id-is .0)) $
+    move ! (1 ∷ 0 ∷ 4 ∷ 10 ∷ 11 ∷ []) $ answers 1 (slots beside) standing found Finds (λ y z. z ≡ foundAnswer y) ! fm (cited 𝓤 H _ 𝓜 𝓡 code.env #find find-def.routine code.calls-streams·table·find-stream (find-thm.met 𝓤 H 𝓜 𝓖 𝓡))
+    (cited 𝓤 H _ 𝓜 𝓡 code.env #say say-def.routine code.calls-capi·table·found-answer (say-thm.met 𝓤 H 𝓜 𝓖 𝓡)) κs qs (passed κs a) (values κs beside (passed κs a)) refl refl
+    (and-then ! (load ! (from ! (stop !)) (look ! 9 refl)) (and-then ! (load ! (from ! (stop !)) (look ! 4 refl)) (no-more !))) (λ _ v y z ws e said.
+    -- [the token; what is left; the answer; _3; _4; the rest of _4 and of _3; _2; _1]
+    move ! (9 ∷ 10 ∷ 7 ∷ 8 ∷ 3 ∷ 6 ∷ 4 ∷ 5 ∷ []) $ clears ! $ clears ! $ clears ! $ clears ! $ free0 ! $
+    ends-owning given (plain (λ _. found .type)) Claimed 𝓤 H (𝓖 .A) W κs qs a ! v z (tt, (tt, tt)) refl (said ∙ ap foundAnswer e)))))))))

@@ -1,0 +1,26 @@
+-- `judge_by`, by what was looked up, the two limits and what is read at the front of the frame. Assumes nothing.
+use mathlib.Core.Path.{sym, _∙_}
+use borrow.Author.Tests.{le-leb, lt-leb}
+use Rattle.wire.proofs.Reading.{reads}
+use Rattle.datagram.specs.Code.{judgedReadBy, judgedBy}
+use borrow.Author.Needs.{needs}
+use Rattle.datagram.proofs.judge.judge_by.Statement.{statement}
+use Rattle.datagram.proofs.judge.judge_by.Tie as tie
+
+pub judge-by-spec : {M : Type 1} → statement M
+unfolding judgedBy judgedReadBy
+judge-by-spec =
+    tie.close
+    (tie.spec
+    (λ c. search needs)
+    (λ c. search needs)
+    (λ c. rw (c .before .before .lookup .given .1, lt-leb _ _ (c .if1 .taken)))
+    (λ c. rw (c .before .before .before .lookup .given .1, le-leb _ _ (c .before .if1 .left), lt-leb _ _ (c .if2 .taken)))
+    (λ c κs. search needs)
+    (λ c. search needs)
+    (λ c. search needs)
+    (λ c. reads _ _ _ (sym (c .before .before .before .read-varint .ensures) ∙ c .before .value .given .1) .fits)
+    (λ c κs. search needs)
+    (λ c. rw (c .enum-told .given .1))
+    (λ c. rw (c .before .before .before .before .before .before .lookup .given .1, le-leb _ _ (c .before .before .before .before .if1 .left), le-leb _ _ (c .before .before .before .if2 .left), sym (c .before .before .read-varint .ensures) ∙ c .enum-told2 .given .1))
+    (λ c. rw (c .before .before .before .before .before .before .before .before .lookup .given .1, le-leb _ _ (c .before .before .before .before .before .before .if1 .left), le-leb _ _ (c .before .before .before .before .before .if2 .left), sym (c .before .before .before .before .read-varint .ensures) ∙ c .before .before .value .given .1) (c .judge-quarter .ensures)))

@@ -1,0 +1,23 @@
+-- `frame_header_by`, by whether the stream may be sent to: its quarter is one then. Assumes nothing.
+use mathlib.Core.Path.{sym, _∙_}
+use Rattle.wire.specs.Writing.{refuses}
+use Rattle.datagram.specs.Sending.{frameHeaderWritten}
+use Rattle.datagram.specs.Code.{frameHeaderBy}
+use Rattle.datagram.proofs.Deciding.{sent-bounded}
+use borrow.Author.Needs.{needs}
+use Rattle.datagram.proofs.write.frame_header_by.Statement.{statement}
+use Rattle.datagram.proofs.write.frame_header_by.Tie as tie
+
+pub frame-header-by-spec : {M : Type 1} → statement M
+unfolding frameHeaderBy frameHeaderWritten refuses
+frame-header-by-spec =
+    tie.close
+    (tie.spec
+    (λ c κs. search needs)
+    (λ c κs. search needs)
+    (λ c. search needs)
+    (λ c. search needs)
+    (λ c κs. sent-bounded _ _ _ _ (sym (c .before .before .before .before .send-to .ensures) ∙ c .before .before .quarter .given .1))
+    (λ c. rw (sym (c .before .before .before .before .are-agreed .ensures), sym (c .before .before .before .send-to .ensures) ∙ c .before .why .given .1))
+    (λ c. search needs)
+    (λ c. rw (sym (c .before .before .before .before .before .before .before .before .are-agreed .ensures), sym (c .before .before .before .before .before .before .before .send-to .ensures) ∙ c .before .before .before .before .before .quarter .given .1) (c .before .before .put-frame-header .ensures)))

@@ -1,0 +1,21 @@
+-- `send_to`, by what was looked up and the quarter of the ID. Assumes nothing.
+use mathlib.Core.Path.{sym, _∙_}
+use Rattle.datagram.specs.Code.{sendingBy}
+use borrow.Author.Needs.{needs}
+use Rattle.datagram.proofs.write.send_to.Statement.{statement}
+use Rattle.datagram.proofs.write.send_to.Tie as tie
+
+pub send-to-spec : {M : Type 1} → statement M
+unfolding sendingBy
+send-to-spec =
+    tie.close
+    (tie.spec
+    (λ c. search needs)
+    (λ c. search needs)
+    (λ c κs. search needs)
+    (λ c. search needs)
+    (λ c. search needs)
+    (λ c κs. search needs)
+    (λ c. rw (c .enum-told .given .1))
+    (λ c. rw (c .before .before .before .before .lookup .given .1, sym (c .before .before .quarter .ensures) ∙ c .enum-told2 .given .1, sendingBy))
+    (λ c. rw (c .before .before .before .before .before .before .lookup .given .1, sym (c .before .before .before .before .quarter .ensures) ∙ c .before .before .quarter2 .given .1, sendingBy) (c .send-entry .ensures)))

@@ -1,3 +1,0 @@
-pub mod Surveys
-pub mod Queries
-pub mod Claims

@@ -1,0 +1,4 @@
+pub mod Streams
+pub mod Completing
+pub mod States
+pub mod Cases

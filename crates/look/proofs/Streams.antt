@@ -1,0 +1,69 @@
+-- What a look says of the reader of a stream is what the grammar says of the stream: of each stage, by what stands at the tail's front.
+use mathlib.Core.Path.{_≡_, refl, _∙_}
+use Prim.Native.Nat.{ℕ, suc, _+_, _-_, _<_}
+use native.Mathlib.Omega.{arith}
+use mathlib.Core.Bool.{Bool, true, false, cond}
+use mathlib.Core.List.{List, [], _∷_}
+use lib.ListN.{length, drop, length-drop}
+use lib.Dec.{leb}
+use borrow.Author.Tests.{ne-eqb}
+use Rattle.wire.specs.declared.varint.Varint.the-variants.{Whole}
+use Rattle.wire.specs.Varint.{readVarint}
+use Rattle.wire.specs.Partial.{partialOf}
+use Rattle.wire.proofs.Reading.{no-whole-nil}
+use Rattle.wire.proofs.Parts.{both}
+use Rattle.addresses.specs.Addresses.{longestAddressValue}
+use Rattle.capsule.specs.declared.opening.Opening.{Opening}
+use Rattle.capsule.specs.declared.opening.Kind.{Kind}
+use Rattle.capsule.specs.declared.opening.Kind.the-variants.{Datagram, Address, Unknown}
+use Rattle.capsule.specs.Grammar.{Stage, inLength, inValue, part}
+use Rattle.capsule.specs.Kinds.{kindOf, extentBy, extentOf}
+use Rattle.capsule.specs.Book.{partsFor}
+use Rattle.capsule.specs.State.{phaseAt, phaseOf, readerOf}
+use Rattle.capsule.specs.Reader.{isMakeable}
+use Rattle.capsule_laws.proofs.Grammar.{seesType, seesLength, seesValue, head-fits}
+use Rattle.capsule_laws.proofs.Appending.{Shows, tail-shows}
+use Rattle.capsule_laws.proofs.Lists.{made-stream}
+use Rattle.look.specs.declared.Place.the-variants.{InValue}
+use Rattle.look.specs.Looking.{bufferOf, storedIn, placeOf, sightOf, lookOf}
+use Rattle.look.specs.Claims.{withinAt, placeAt, placeIn, LookOfStream}
+
+-- a value that is waited for is waited for to its length
+all-waited : (op : Opening) (t n : ℕ) → 0 < extentOf op t n → extentOf op t n ≡ n
+unfolding extentOf
+all-waited op t n = go (kindOf op t)
+  where
+    long : (b : Bool) → 0 < cond b n 0 → cond b n 0 ≡ n
+    long true h = refl
+    long false h = absurd (let x : ⊥ = omega arith in x)
+
+    go : (k : Kind) → 0 < extentBy k n → extentBy k n ≡ n
+    go Datagram h = unfold extentBy in refl
+    go Address h = unfold extentBy in long (leb n longestAddressValue) (unfold extentBy in h)
+    go Unknown h = unfold extentBy in refl
+
+-- behind a type stands at least one byte
+within : (op : Opening) (r : List ℕ) (x : Stage) (t j : ℕ) → readVarint r ≡ Whole t j → withinAt op r x ≡ placeAt op r x
+unfolding placeAt
+within op [] x t j e = no-whole-nil e
+within op (b ∷ r) x t j e = refl
+
+place-at : (op : Opening) (r : List ℕ) (x : Stage) → Shows op r (part x) → placeOf op (phaseAt op r x) ≡ placeAt op r x
+unfolding placeOf phaseAt withinAt
+place-at op [] x (seesType e) = unfold placeAt partialOf in refl
+place-at op (b ∷ r) x (seesType e) = unfold placeAt partialOf in rw (ne-eqb (suc (length r)) 0 (λ z. omega arith))
+place-at op r x (seesLength {t = t} {j = j} e d) = within op r (inLength t j) t j e
+place-at op r x (seesValue {t = t} {j = j} {n = n} {k = k} e d h) =
+    let f = head-fits r e d in
+    let m = extentOf op t n in
+    let l = length-drop (j + k) r in
+    let w : m ≡ n = all-waited op t n (omega arith) in
+    let left : j + k + m - length r ≡ n - length (drop (j + k) r) = omega arith in
+    let came : m - (j + k + m - length r) ≡ length (drop (j + k) r) = omega arith in
+    (λ i. InValue t n (left i) (storedIn (bufferOf op t n) (came i)) (bufferOf op t n))
+    ∙ within op r (inValue t n (j + k)) t j e
+
+pub look-of-stream : LookOfStream
+unfolding lookOf sightOf readerOf isMakeable phaseOf placeIn
+look-of-stream op s mark a w =
+    rw (both _ _ a (made-stream op s w), place-at op (partsFor op s .tail) (partsFor op s .stage) (tail-shows op s))

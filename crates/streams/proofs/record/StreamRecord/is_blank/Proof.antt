@@ -1,0 +1,16 @@
+-- `StreamRecord::is_blank`, by the test of its quarter. Assumes nothing.
+use mathlib.Core.Path.{sym, ap}
+use mathlib.Core.Bool.{Bool, _&&_}
+use lib.Dec.{eqb}
+use borrow.Author.Tests.{ne-eqb, eq-eqb}
+use Rattle.streams.specs.Records.{isBlank}
+use Rattle.streams.proofs.record.StreamRecord.is_blank.Statement.{statement}
+use Rattle.streams.proofs.record.StreamRecord.is_blank.Tie as tie
+
+pub is-blank-spec : {M : Type 1} → statement M
+unfolding isBlank
+is-blank-spec =
+    tie.close
+    (tie.spec
+    (λ c. ap (λ (b : Bool). b && eqb (c .before .before .before .args .self .flags) 0) (sym (ne-eqb _ 0 (c .if1 .taken))))
+    (λ c. ap (λ (b : Bool). b && eqb (c .before .before .before .before .args .self .flags) 0) (sym (eq-eqb _ 0 (c .before .if1 .left)))))

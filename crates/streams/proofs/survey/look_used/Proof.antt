@@ -1,0 +1,31 @@
+-- `look_used`, by what `checked` promises and by the place that its two tests leave. Assumes nothing.
+use mathlib.Core.Path.{_≡_, sym, ap, _∙_}
+use Prim.Native.Nat.{ℕ}
+use mathlib.Core.Bool.{Bool, cond}
+use lib.Dec.{eqb, ltb}
+use borrow.Author.Tests.{eq-eqb, ne-eqb, lt-ltb, le-ltb}
+use Rattle.streams.specs.declared.record.StreamRecord.{StreamRecord}
+use Rattle.streams.specs.declared.survey.Survey.{Survey}
+use Rattle.streams.specs.Code.{checked, lookedUsed}
+use borrow.Author.Needs.{needs}
+use Rattle.streams.proofs.survey.look_used.Statement.{statement}
+use Rattle.streams.proofs.survey.look_used.Tie as tie
+
+module _ (r : StreamRecord) (i q : ℕ) where
+  abbrev placed : Survey → ℕ
+  placed s = cond (eqb (r .quarter .0) q) (cond (ltb (s .place) (s .places)) (s .place) i) (s .place)
+
+  looked : (s next : Survey) (again : Bool) (p : ℕ) → next ≡ checked s r again → placed next ≡ p → record { places = next .places; bad = next .bad; place = p } ≡ lookedUsed s r i again q
+  unfolding checked lookedUsed
+  looked s next again p e h =
+      ap (λ (x : ℕ). record { places = next .places; bad = next .bad; place = x }) (sym h)
+      ∙ ap (λ (x : Survey). record { places = x .places; bad = x .bad; place = placed x }) e
+
+pub look-used-spec : {M : Type 1} → statement M
+look-used-spec =
+    tie.close
+    (tie.spec
+    (λ c κs. search needs)
+    (λ c. let a = c .before .before .before .before .before .before .before .args in looked (a .r) (a .i) (a .quarter .0) (a .known) _ (a .again) _ (c .before .before .before .before .before .checked .ensures) (rw (eq-eqb _ _ (c .before .before .if1 .taken), lt-ltb _ _ (c .if2 .taken))))
+    (λ c. let a = c .before .before .before .before .before .before .before .args in looked (a .r) (a .i) (a .quarter .0) (a .known) _ (a .again) _ (c .before .before .before .before .before .checked .ensures) (rw (eq-eqb _ _ (c .before .before .if1 .taken), le-ltb _ _ (c .if2 .left))))
+    (λ c. let a = c .before .before .before .before .before .args in looked (a .r) (a .i) (a .quarter .0) (a .known) _ (a .again) _ (c .before .before .before .checked .ensures) (rw (ne-eqb _ _ (c .if1 .left)))))
