@@ -1,5 +1,6 @@
-.PHONY: run example relay test lib install fuzz bench
+.PHONY: run example relay test quick check edit lint gate moved lib install fuzz bench
 
+SHELL := bash
 FILE ?= samples/s.capture
 PREFIX ?= /usr/local
 SECONDS ?= 300
@@ -8,7 +9,7 @@ SECONDS ?= 300
 run:
 	@command -v rt > /dev/null || { echo "rt, the command of the Rattle kit, is not on the PATH" >&2; exit 1; }
 	@mkdir -p build
-	@rt check list_capsules > build/run.log 2>&1 || { cat build/run.log; exit 1; }
+	@set -o pipefail; rt check list_capsules 2>&1 | python3 tools/progress build/run.log list_capsules >&2
 	@target/bin/list_capsules "$(FILE)"
 
 # Asks for an address, assigns one and tells routes, with the C interface.
@@ -26,6 +27,35 @@ relay: lib
 test:
 	@bash tests/run
 
+# Proves and runs what it is given, or everything, and says where it is.
+proved = mkdir -p build; set -o pipefail; \
+  rt check $(1) 2>&1 | python3 tools/progress build/check.log $(1) && tail -n 1 build/check.log
+
+# All proofs and programs, without the edits that must be refused.
+quick:
+	@$(call proved)
+
+# One crate and those below it: make check CRATE=x.
+check:
+	@[ -n "$(CRATE)" ] || { echo "usage: make check CRATE=x" >&2; exit 2; }
+	@$(call proved,$(CRATE))
+
+# One edit that must be refused: make edit CRATE=x EDIT=y.
+edit:
+	@bash tools/edit "$(CRATE)" "$(EDIT)"
+
+# What no proof sees: pointers, claims without a proof, names in the papers, unused imports, long lines.
+lint:
+	@python3 tools/lint
+
+# The merge gate on a clone of HEAD.
+gate:
+	@bash tools/gate
+
+# Definitions, promises and proofs that moved since a revision: make moved REV=x.
+moved:
+	@python3 tools/moved "$(REV)"
+
 # What a host links: build/lib/libmaruzhenu.a, build/include/maruzhenu.h, build/lib/pkgconfig/maruzhenu.pc.
 lib:
 	@bash tools/lib
@@ -38,6 +68,8 @@ install: lib
 fuzz: lib
 	@bash fuzz/run "$(SECONDS)"
 
-# Measures, and writes build/bench.md and build/bench.svg. No part of make test.
-bench: lib
-	@bash bench/calls
+# Measures, and writes build/bench.md and build/bench.svg; make bench AGAINST=REV measures the archive of an earlier
+# revision in the same run. No part of make test.
+bench:
+	@$(if $(AGAINST),MARUZHENU_BASE=$$(python3 tools/against "$(AGAINST)") && export MARUZHENU_BASE && )\
+	  bash tools/lib && bash bench/calls

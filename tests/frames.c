@@ -50,7 +50,7 @@ static void capsule(size_t length) {
 }
 
 static void sent(uint64_t stream_id) {
-    const mrz_stream stream = just_opened(stream_id / 4);
+    const mrz_stream stream = just_opened(mrz_quarter_of(stream_id).quarter);
     static const mrz_frame_terms terms = {1, 1, 1200};
     uint8_t out[4];
     memset(out, 0xaa, sizeof out);

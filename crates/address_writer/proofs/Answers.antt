@@ -1,14 +1,5 @@
 -- The writers' answers, and what stands in the output. Assumes nothing.
-use mathlib.Core.Path.{_≡_, refl, sym, ap, _∙_}
-use mathlib.Core.Logic.{_↔_}
-use Prim.Native.Nat.{ℕ, zero, suc, _+_, _*_, _/_, _^_, _≤_}
-use native.Mathlib.Omega.{arith}
-use mathlib.Core.Bool.{Bool, true, false, cond, _&&_, not}
-use mathlib.Core.List.{List, [], _∷_, _++_, append-assoc}
-use lib.ListN.{length, take, drop, getD, length-drop}
-use lib.Seq.{sets, sets-eq, length-sets, take-at, drop-at, drop-drop, length-take-le}
-use lib.Dec.{leb, ltb, eqb}
-use borrow.Author.Tests.{le-leb, leb-true, leb-false, lt-ltb, eq-eqb, not-false}
+use Rattle.walks.proofs.Words.{_≡_, refl, sym, ap, _∙_, _↔_, ℕ, zero, suc, _+_, _*_, _/_, _^_, _≤_, arith, Bool, true, false, cond, _&&_, not, List, [], _∷_, _++_, append-assoc, length, take, drop, getD, length-drop, sets, sets-eq, length-sets, take-at, drop-at, drop-drop, length-take-le, leb, ltb, eqb, le-leb, leb-true, leb-false, lt-ltb, eq-eqb, not-false}
 use Rattle.refusals.specs.declared.Refusal.{Refusal}
 use Rattle.refusals.specs.Numbers.{outputTooShort, numberTooLarge, malformedToWrite}
 use Rattle.wire.specs.declared.varint.Written.{Written}

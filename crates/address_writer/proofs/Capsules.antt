@@ -1,9 +1,5 @@
 -- A capsule with a type of one byte. Assumes nothing.
-use mathlib.Core.Path.{_≡_}
-use Prim.Native.Nat.{ℕ, _+_}
-use native.Mathlib.Omega.{arith}
-use mathlib.Core.List.{List}
-use lib.ListN.{length}
+use Rattle.walks.proofs.Words.{_≡_, ℕ, _+_, arith, List, length}
 use Rattle.wire.specs.Varint.{leastSize}
 use Rattle.wire.proofs.Encoding.{shortest}
 use Rattle.capsule_laws.proofs.Written.{written-length, one-written}

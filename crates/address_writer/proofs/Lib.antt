@@ -5,3 +5,5 @@ pub mod Capsules
 pub mod ReadBack
 pub mod Answers
 pub mod Cases
+pub mod Counting
+pub mod Conditions

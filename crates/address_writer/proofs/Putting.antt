@@ -1,13 +1,5 @@
 -- Bytes put one after another. Assumes nothing.
-use mathlib.Core.Path.{_≡_, refl, sym, ap, _∙_, subst}
-use Prim.Native.Nat.{ℕ, suc, _+_, _*_, _/_, _≤_, _<_}
-use native.Mathlib.Omega.{arith}
-use mathlib.Core.Bool.{Bool, true, false, cond}
-use mathlib.Core.List.{List, [], _∷_, _++_}
-use lib.ListN.{length, take, drop, getD, set, length-append, length-drop}
-use lib.Seq.{sets, drop-cons, drop-drop, take-add, length-take-le}
-use lib.Pow.{pow-mono}
-use borrow.Author.Tests.{eq-eqb, ne-eqb}
+use Rattle.walks.proofs.Words.{_≡_, refl, sym, ap, _∙_, subst, ℕ, suc, _+_, _*_, _/_, _≤_, _<_, arith, Bool, true, false, cond, List, [], _∷_, _++_, length, take, drop, getD, set, length-append, length-drop, sets, drop-cons, drop-drop, take-add, length-take-le, pow-mono, eq-eqb, ne-eqb}
 use Rattle.wire.specs.declared.varint.Written.{Written}
 use Rattle.wire.specs.Bytes.{Bytes}
 use Rattle.wire.specs.Varint.{largest, leastSize, encode}

@@ -1,14 +1,5 @@
 -- Entries written are read back. Assumes nothing.
-use mathlib.Core.Path.{_≡_, refl, sym, ap, _∙_}
-use Prim.Native.Nat.{ℕ, zero, suc, _+_, _^_, _≤_, _<_}
-use native.Mathlib.Omega.{arith}
-use mathlib.Core.Bool.{Bool, true, false, cond, _&&_}
-use mathlib.Core.Option.{none, some}
-use mathlib.Core.List.{List, [], _∷_, _++_, append-assoc}
-use lib.ListN.{length, drop, getD, length-append}
-use lib.Seq.{take-at, drop-at, getD-at, drop-drop}
-use lib.Dec.{leb, ltb, eqb}
-use borrow.Author.Tests.{lt-ltb, leb-true, ltb-true, eqb-true}
+use Rattle.walks.proofs.Words.{_≡_, refl, sym, ap, _∙_, ℕ, zero, suc, _+_, _^_, _≤_, _<_, arith, Bool, true, false, cond, _&&_, none, some, List, [], _∷_, _++_, append-assoc, length, drop, getD, length-append, take-at, drop-at, getD-at, drop-drop, leb, ltb, eqb, lt-ltb, leb-true, ltb-true, eqb-true}
 use Rattle.wire.specs.declared.varint.Varint.the-variants.{Whole}
 use Rattle.wire.specs.Bytes.{num, bytesOf}
 use Rattle.wire.specs.Varint.{largest, leastSize, readVarint, encode}

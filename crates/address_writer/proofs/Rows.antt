@@ -1,14 +1,5 @@
 -- Records of a row, and numbers in them. Assumes nothing.
-use mathlib.Core.Path.{_≡_, refl, sym, ap, _∙_}
-use Prim.Native.Nat.{ℕ, zero, suc, _+_, _-_, _*_, _/_, _^_, _≤_, _<_}
-use native.Mathlib.Nat.{pow-succ', div-le-self}
-use native.Mathlib.Omega.{arith}
-use mathlib.Core.Bool.{Bool, true, false, cond, _&&_}
-use mathlib.Core.List.{List, [], _∷_, _++_}
-use lib.ListN.{length, take, drop, getD, length-drop}
-use lib.Seq.{drop-cons, drop-drop, getD-drop, take-add, length-take-le}
-use lib.Dec.{leb, eqb}
-use borrow.Author.Tests.{le-leb, lt-leb, leb-true}
+use Rattle.walks.proofs.Words.{_≡_, refl, sym, ap, _∙_, ℕ, zero, suc, _+_, _-_, _*_, _/_, _^_, _≤_, _<_, pow-succ', div-le-self, arith, Bool, true, false, cond, _&&_, List, [], _∷_, _++_, length, take, drop, getD, length-drop, drop-cons, drop-drop, getD-drop, take-add, length-take-le, leb, eqb, le-leb, lt-leb, leb-true}
 use Rattle.wire.specs.Bytes.{Bytes, num, bytesOf}
 use Rattle.wire.specs.Varint.{largest, encode}
 use Rattle.wire.proofs.Numbers.{bytesOf-num, bytes-take, bytes-drop}

@@ -1,13 +1,5 @@
 -- A value written as a capsule. Assumes nothing.
-use mathlib.Core.Path.{_≡_, refl, ap, _∙_}
-use Prim.Native.Nat.{ℕ, _+_, _%_, _≤_, _<_}
-use native.Mathlib.Omega.{arith}
-use mathlib.Core.Bool.{Bool, true, false}
-use mathlib.Core.List.{List, [], _∷_, _++_}
-use lib.ListN.{length, take, drop, length-append}
-use lib.Seq.{sets, sets-eq, take-at, take-length}
-use lib.Dec.{leb}
-use borrow.Author.Tests.{le-leb, lt-leb, leb-true, eq-eqb, ne-eqb}
+use Rattle.walks.proofs.Words.{_≡_, refl, ap, _∙_, ℕ, _+_, _%_, _≤_, _<_, arith, Bool, true, false, List, [], _∷_, _++_, length, take, drop, length-append, sets, sets-eq, take-at, take-length, leb, le-leb, lt-leb, leb-true, eq-eqb, ne-eqb}
 use Rattle.refusals.specs.Numbers.{outputTooShort, numberTooLarge, malformedToWrite}
 use Rattle.wire.specs.declared.varint.Written.the-variants.{Refused, Wrote}
 use Rattle.wire.specs.Varint.{largest, leastSize, encode}

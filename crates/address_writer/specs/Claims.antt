@@ -1,11 +1,11 @@
 -- What holds of the writers: each claim is a type here, and is proved in proofs/ under its name in lower case with dashes.
-use Prim.Native.Nat.{ℕ, _+_, _^_, _≤_, _<_}
+use Prim.Native.Nat.{ℕ, _+_, _-_, _*_, _/_, _%_, _^_, _≤_, _<_}
 use mathlib.Core.Path.{_≡_}
 use mathlib.Core.Logic.{_↔_}
 use mathlib.Core.Bool.{Bool, true, false, _&&_, not}
 use mathlib.Core.Option.{some}
 use mathlib.Core.List.{List, [], _∷_}
-use lib.ListN.{length, take, drop}
+use lib.ListN.{length, take, drop, getElem?}
 use lib.Dec.{leb, ltb, eqb}
 use Rattle.refusals.specs.declared.Refusal.{Refusal}
 use Rattle.refusals.specs.Numbers.{outputTooShort, numberTooLarge, malformedToWrite}
@@ -21,7 +21,7 @@ use Rattle.capsule.specs.Kinds.{opted}
 use Rattle.capsule.specs.Book.{partsFor, reported}
 use Rattle.addresses.specs.Addresses.{assign, request, route, longestAddressValue, widthOf, Step, entries, allOf, Entry, entryAt, goodEntry, goodRequests, Range, rangeAt, goodRanges, wellFormed}
 use Rattle.addresses.specs.Encoding.{entryBytes, rangeBytes, valueBytes}
-use Rattle.address_writer.specs.Rows.{entrySize, rangeSize, isWhole, entriesIn, rangesIn}
+use Rattle.address_writer.specs.Rows.{littleEndian, entrySize, entryOf, rangeSize, rangeOf, isWhole, entriesIn, rangesIn}
 use Rattle.address_writer.specs.Writer.{capsuleOf, idFits, writeAddresses, writeRoutes}
 
 -- ---- a capsule (proofs/Capsules.antt)
@@ -36,6 +36,20 @@ OneCapsule = (t : ℕ) (v : List ℕ) → t ≤ 63 → length v ≤ largest → 
 -- its header is shortest: the type has one byte, and no byte list that reads as the length is shorter
 abbrev pub HeaderShortest : Type 0
 HeaderShortest = (t : ℕ) (v s : List ℕ) (size : ℕ) → readVarint s ≡ Whole (length v) size → length (capsuleOf t v) ≤ 1 + (size + length v)
+
+-- ---- the row of records that is lent (proofs/Counting.antt)
+
+-- a row has surplus bytes exactly if its length is no multiple of a record's size
+abbrev pub WholeExactly : Type 0
+WholeExactly = (size : ℕ) (row : List ℕ) → (isWhole size row ≡ true) ↔ (length row % size ≡ 0)
+
+-- every whole record is an entry, in order: entry k starts at k sizes
+abbrev pub EntriesOf : {A : Type 0} → ℕ → (List ℕ → A) → (List ℕ → List A) → Type 0
+EntriesOf size entry entriesOf =
+    (row : List ℕ) → (length (entriesOf row) ≡ length row / size) × ((k : ℕ) → k < length row / size → getElem? (entriesOf row) k ≡ some (entry (drop (size * k) row)))
+
+abbrev pub EveryEntry : Type 0
+EveryEntry = EntriesOf 32 entryOf entriesIn × EntriesOf 34 rangeOf rangesIn
 
 -- ---- entries of either form (proofs/ReadBack.antt)
 
@@ -108,6 +122,19 @@ unfoldable pub hasLargeId : AddressCapsule → List ℕ → Bool
 hasLargeId addressAssign row = not (allOf idFits (entriesIn row))
 hasLargeId addressRequest row = not (allOf idFits (entriesIn row))
 hasLargeId routeAdvertisement row = false
+
+-- the same in document 02's words: the ID of some whole record of a row of addresses (proofs/Conditions.antt)
+abbrev pub LargeId : AddressCapsule → List ℕ → Type 0
+LargeId k row = (k ≡ routeAdvertisement → ⊥) × ((i : ℕ) × (i < length row / 32) × (2 ^ 62 - 1 < littleEndian (take 8 (drop (32 * i) row))))
+
+abbrev pub LargeIdExactly : Type 0
+LargeIdExactly = (k : AddressCapsule) (row : List ℕ) → (hasLargeId k row ≡ true) ↔ LargeId k row
+
+-- the size of a record
+abbrev pub recordSize : AddressCapsule → ℕ
+recordSize addressAssign = 32
+recordSize addressRequest = 32
+recordSize routeAdvertisement = 34
 
 -- no surplus bytes, at most 1,024 bytes of value, known versions, and RFC 9484's rules
 unfoldable pub keepsRules : AddressCapsule → List ℕ → Bool

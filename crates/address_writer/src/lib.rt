@@ -12,16 +12,12 @@ ghost use Rattle.address_writer.specs.Rows.{littleEndian, entryOf, range
 ghost use Rattle.address_writer.specs.Writer.{idFits, writeValue, writeAddresses, writeRoutes};
 ghost use Rattle.address_writer.specs.Putting.{Put, recordSize, recordBytes, valueIn, Gathered};
 use addresses::well_formed;
+use capsule::opening::Kind;
 use refusals::Refusal;
+use wire::varint::Varint;
 use wire::varint::Written;
 use wire::varint::least_size;
 use wire::varint::write_varint;
-
-// The longest value.
-const LONGEST: usize = 1024;
-
-// The largest number that a varint holds.
-const MAX_NUMBER: u64 = 4611686018427387903;
 
 fn wide(b: u8) -> u64
     ensures { λ r. ⌜ r ≡ b ⌝ }
@@ -58,7 +54,7 @@ fn ids_fit(row: &[u8]) -> bool
     let count = row.len() / 32;
     let mut i: usize = 0;
     while i < count {
-        if number8(row, 32 * i) > MAX_NUMBER {
+        if number8(row, 32 * i) > Varint::MAX {
             return false;
         }
         i += 1;
@@ -177,7 +173,7 @@ fn put_records(routes: bool, row: &[u8], out: &mut [u8]) -> usize
     let mut at: usize = 0;
     let mut i: usize = 0;
     while i < count {
-        if at > LONGEST {
+        if (at as u64) > Kind::LONGEST_ADDRESS_VALUE {
             return at;
         }
         at = put_record(routes, row, size * i, out, at);
@@ -217,7 +213,7 @@ fn write_records(ctype: u8, routes: bool, row: &[u8], out: &mut [u8], place: usi
     }
     let mut value = [0u8; 1058];
     let size = put_records(routes, row, &mut value);
-    if size > LONGEST {
+    if (size as u64) > Kind::LONGEST_ADDRESS_VALUE {
         return Written::Refused(Refusal::MALFORMED_TO_WRITE);
     }
     write_value(ctype, &value[..size], out, place)

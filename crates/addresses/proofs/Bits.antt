@@ -1,15 +1,5 @@
 -- Bits beyond a prefix, by the address's number. Assumes nothing.
-use mathlib.Core.Path.{_≡_, sym, ap, _∙_}
-use mathlib.Core.Bool.{_&&_}
-use Prim.Native.Nat.{ℕ, zero, suc, _+_, _-_, _*_, _%_, _^_, _≤_, _<_}
-use native.Mathlib.Nat.{mod-eq-of-lt, mul-add-mod-self-right}
-use native.Mathlib.Omega.{arith}
-use mathlib.Core.List.{List, [], _∷_}
-use lib.ListN.{length}
-use lib.Arith.{digits-div, digits-mod}
-use lib.Pow.{pow-add, mod-pow-add}
-use lib.Dec.{eqb}
-use borrow.Author.Tests.{eq-eqb, ne-eqb}
+use Rattle.walks.proofs.Words.{_≡_, sym, ap, _∙_, _&&_, ℕ, zero, suc, _+_, _-_, _*_, _%_, _^_, _≤_, _<_, mod-eq-of-lt, mul-add-mod-self-right, arith, List, [], _∷_, length, digits-div, digits-mod, pow-add, mod-pow-add, eqb, eq-eqb, ne-eqb}
 use Rattle.wire.specs.Bytes.{Bytes, num, numFrom}
 use Rattle.wire.proofs.Numbers.{pow-256, num-lt}
 use Rattle.wire.proofs.Reading.{split}

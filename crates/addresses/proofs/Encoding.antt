@@ -1,15 +1,5 @@
 -- A value is the bytes of its entries. Assumes nothing.
-use mathlib.Core.Path.{_≡_, refl, sym, ap, _∙_}
-use mathlib.Core.Bool.{Bool, true, false, cond, _&&_}
-use mathlib.Core.Option.{Option, none, some}
-use Prim.Native.Nat.{ℕ, zero, suc, _+_, _-_, _*_, _/_, _%_, _^_, _≤_, _<_}
-use native.Mathlib.Nat.{div-div-eq-div-mul, div-add-mod', mod-lt}
-use native.Mathlib.Omega.{arith}
-use mathlib.Core.List.{List, [], _∷_, _++_}
-use lib.ListN.{length, getD, take, drop}
-use lib.Seq.{length-take-le, drop-append-seam}
-use lib.Pow.{pow-add, pow-pos}
-use lib.Dec.{ltb}
+use Rattle.walks.proofs.Words.{_≡_, refl, sym, ap, _∙_, Bool, true, false, cond, _&&_, Option, none, some, ℕ, zero, suc, _+_, _-_, _*_, _/_, _%_, _^_, _≤_, _<_, div-div-eq-div-mul, div-add-mod', mod-lt, arith, List, [], _∷_, _++_, length, getD, take, drop, length-take-le, drop-append-seam, pow-add, pow-pos, ltb}
 use Rattle.wire.specs.declared.varint.Varint.the-variants.{Whole}
 use Rattle.wire.specs.Bytes.{Bytes, num, bytesOf}
 use Rattle.wire.specs.Varint.{sizeOf, valueOf, readVarint, encodeAs, encode}

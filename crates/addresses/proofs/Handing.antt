@@ -1,11 +1,5 @@
 -- Entries handed out. Assumes nothing.
-use mathlib.Core.Path.{_≡_, sym, ap}
-use Prim.Native.Nat.{ℕ, zero, suc, _+_, _-_, _≤_, _<_}
-use native.Mathlib.Numerals.{add-one}
-use native.Mathlib.Omega.{arith}
-use mathlib.Core.List.{List, [], _∷_, _++_}
-use lib.ListN.{length, getD, take, drop, set, replicate, length-drop}
-use lib.Seq.{take-suc, set-at, append-snoc, length-take-le, getD-drop, drop-nil}
+use Rattle.walks.proofs.Words.{_≡_, sym, ap, ℕ, zero, suc, _+_, _-_, _≤_, _<_, add-one, arith, List, [], _∷_, _++_, length, getD, take, drop, set, replicate, length-drop, take-suc, set-at, append-snoc, length-take-le, getD-drop, drop-nil}
 use Rattle.wire.specs.Bytes.{Bytes, num, bytesOf}
 use Rattle.wire.proofs.Numbers.{bytesOf-num, bytes-take, bytes-drop}
 use Rattle.addresses.specs.declared.Cursor.{Cursor}

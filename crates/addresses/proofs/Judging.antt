@@ -1,13 +1,5 @@
 -- What the code's tests say of entries and ranges at their places. Assumes nothing.
-use mathlib.Core.Path.{_≡_, refl, sym, ap, _∙_}
-use mathlib.Core.Bool.{Bool, true, false, cond, _&&_, _||_, not, or-true}
-use mathlib.Core.Option.{Option, none, some}
-use Prim.Native.Nat.{ℕ, zero, suc, _+_, _*_, _≤_, _<_}
-use native.Mathlib.Omega.{arith}
-use mathlib.Core.List.{List, [], _∷_, _++_}
-use lib.ListN.{length, getD, take, drop, length-append}
-use lib.Dec.{ltb, eqb}
-use borrow.Author.Tests.{lt-ltb, le-ltb, le-leb, lt-leb, eq-eqb, ne-eqb, eqb-true, eqb-false}
+use Rattle.walks.proofs.Words.{_≡_, refl, sym, ap, _∙_, Bool, true, false, cond, _&&_, _||_, or-true, Option, none, some, ℕ, zero, suc, _+_, _*_, _≤_, _<_, arith, List, [], _∷_, _++_, length, getD, take, drop, length-append, ltb, eqb, lt-ltb, le-ltb, le-leb, lt-leb, eq-eqb, ne-eqb, eqb-true, eqb-false}
 use Rattle.wire.specs.Bytes.{num}
 use Rattle.addresses.specs.Addresses.{Step, done, malformed, next, ahead, entries, areGood, widthOf, Entry, goodEntry, asks, goodRequests, clearBeyond, entryAt, Range, rangeAt, goodRange, before, disjoint, allOf, goodRanges, goodValue, longestAddressValue, wellFormed}
 use Rattle.addresses.specs.Pass.{Seen, nothing, follows, sameOf, clearFrom, fits, after, pass}

@@ -1,11 +1,5 @@
 -- Entries one after another. Assumes nothing.
-use mathlib.Core.Path.{_≡_, refl, sym, ap, _∙_}
-use mathlib.Core.Bool.{Bool, true, false, _&&_, and-false}
-use mathlib.Core.Option.{Option, none, some, Option·map}
-use Prim.Native.Nat.{ℕ, zero, suc, _<_}
-use native.Mathlib.Omega.{arith}
-use mathlib.Core.List.{List, [], map}
-use lib.ListN.{length}
+use Rattle.walks.proofs.Words.{_≡_, refl, sym, ap, _∙_, Bool, true, false, _&&_, and-false, Option, none, some, Option·map, ℕ, zero, suc, _<_, arith, List, [], map, length}
 use Rattle.addresses.specs.Pass.{Seen, fits, after, pass}
 use Rattle.addresses.specs.Addresses.{Range, Step, done, malformed, next, ahead, onwards, entriesBy, entries, allOf, areGood}
 

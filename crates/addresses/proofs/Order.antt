@@ -1,11 +1,5 @@
 -- The order of ranges. Assumes nothing.
-use mathlib.Core.Path.{_≡_, refl, sym, _∙_}
-use mathlib.Core.Bool.{Bool, true, false, _&&_, _||_, and-false}
-use Prim.Native.Nat.{ℕ, _≤_, _<_}
-use native.Mathlib.Omega.{arith}
-use mathlib.Core.List.{List, [], _∷_}
-use lib.Dec.{ltb, eqb}
-use borrow.Author.Tests.{lt-ltb, le-ltb, eq-eqb, ltb-true, ltb-false, eqb-true, not-true}
+use Rattle.walks.proofs.Words.{_≡_, refl, sym, _∙_, Bool, true, false, _&&_, _||_, and-false, ℕ, _≤_, _<_, arith, List, [], _∷_, ltb, eqb, lt-ltb, le-ltb, eq-eqb, ltb-true, ltb-false, eqb-true, not-true}
 use Rattle.addresses.specs.Addresses.{Range, goodRange, before, inOrder, allOf}
 use Rattle.addresses.specs.Claims.{everyTwo, NeighboursDecide}
 

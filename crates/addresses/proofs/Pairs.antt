@@ -1,14 +1,7 @@
 -- One pass checks the rule over every two ranges. Assumes nothing.
-use mathlib.Core.Path.{_≡_, refl, sym, ap, _∙_}
-use mathlib.Core.Bool.{Bool, true, false, _&&_, _||_, and-true, and-false, and-assoc, or-true}
-use mathlib.Core.Option.{Option, none, some}
-use Prim.Native.Nat.{ℕ, zero, suc, _≤_, _<_}
-use native.Mathlib.Omega.{arith}
-use mathlib.Core.List.{List, [], _∷_, _++_, append-assoc}
-use lib.Dec.{ltb, eqb}
-use borrow.Author.Tests.{lt-ltb, eq-eqb, ne-eqb, eqb-true, eqb-false}
+use Rattle.walks.proofs.Words.{_≡_, refl, sym, ap, _∙_, Bool, true, false, _&&_, _||_, and-true, and-false, and-assoc, or-true, Option, none, some, ℕ, zero, suc, _≤_, _<_, arith, List, [], _∷_, _++_, append-assoc, ltb, eqb, lt-ltb, eq-eqb, ne-eqb, eqb-true, eqb-false}
 use Rattle.addresses.specs.Addresses.{Range, goodRange, before, inOrder, disjoint, apart, allApart, allOf, goodRanges}
-use Rattle.addresses.specs.Pass.{nothing, follows, sameOf, clearFrom, fits, after, pass}
+use Rattle.addresses.specs.Pass.{follows, sameOf, clearFrom, fits, after, pass}
 use Rattle.addresses.specs.Claims.{Each, PassIsRule}
 use Rattle.addresses.proofs.Order.{Order, newer, other, above, order}
 

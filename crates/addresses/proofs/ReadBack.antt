@@ -1,19 +1,12 @@
 -- The bytes of entries are read as those entries. Assumes nothing.
-use mathlib.Core.Path.{_≡_, refl, ap, _∙_}
-use Prim.Native.Nat.{ℕ, _+_, _/_, _^_, _<_}
-use native.Mathlib.Omega.{arith}
-use mathlib.Core.List.{List, [], _∷_, _++_, append-assoc}
-use lib.ListN.{length, take, drop, length-append}
-use lib.Seq.{append-snoc, take-at, drop-at, getD-at, drop-drop}
-use lib.Pow.{pow-lt}
-use borrow.Author.Tests.{lt-ltb}
+use Rattle.walks.proofs.Words.{_≡_, refl, ap, _∙_, ℕ, _+_, _/_, _^_, _<_, arith, List, [], _∷_, _++_, append-assoc, length, take, drop, length-append, append-snoc, take-at, drop-at, getD-at, drop-drop, pow-lt, lt-ltb}
 use Rattle.wire.specs.declared.varint.Varint.the-variants.{Whole}
 use Rattle.wire.specs.Bytes.{bytesOf}
 use Rattle.wire.specs.Varint.{sizeOf, readVarint, encodeAs}
 use Rattle.wire.proofs.Numbers.{length-bytesOf, num-bytesOf}
 use Rattle.wire.proofs.Reading.{split, no-whole-nil, read-whole, read-less, whole-incomplete}
 use Rattle.wire.proofs.Encoding.{every-form-read}
-use Rattle.addresses.specs.Addresses.{Step, done, next, ahead, entries, widthOf, Entry, addressAt, entryAt, Range, rangeAt}
+use Rattle.addresses.specs.Addresses.{Step, done, next, ahead, widthOf, Entry, addressAt, entryAt, Range, rangeAt}
 use Rattle.addresses.specs.Encoding.{rangeBytes, valueBytes}
 use Rattle.addresses.specs.Sizes.{SizedEntry, sizedFor, sizedAt, sizedBytes}
 use Rattle.addresses.specs.Claims.{IsEntry, IsRange, ReadsBack, EveryValueRead}

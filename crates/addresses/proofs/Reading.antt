@@ -1,14 +1,5 @@
 -- Entries and ranges at a place of a value. Assumes nothing.
-use mathlib.Core.Path.{_≡_, refl, sym, ap, _∙_}
-use mathlib.Core.Bool.{Bool, true, false, cond, _&&_}
-use Prim.Native.Nat.{ℕ, suc, _+_, _-_, _≤_, _<_}
-use native.Mathlib.Numerals.{add-one}
-use native.Mathlib.Omega.{arith}
-use mathlib.Core.List.{List, [], _∷_, _++_, append-assoc}
-use lib.ListN.{length, getD, take, drop, length-drop, length-append, take-append-drop}
-use lib.Seq.{drop-cons, drop-drop, drop-length, getD-drop, take-all, take-add, split-at, append-snoc, length-take-le}
-use lib.Dec.{ltb}
-use borrow.Author.Tests.{lt-ltb, le-ltb, ltb-true}
+use Rattle.walks.proofs.Words.{_≡_, refl, sym, ap, _∙_, Bool, true, false, cond, _&&_, ℕ, suc, _+_, _-_, _≤_, _<_, add-one, arith, List, [], _∷_, _++_, append-assoc, length, getD, take, drop, length-drop, length-append, take-append-drop, drop-cons, drop-drop, drop-length, getD-drop, take-all, take-add, split-at, append-snoc, length-take-le, ltb, lt-ltb, le-ltb, ltb-true}
 use Rattle.wire.specs.declared.varint.Varint.{Varint}
 use Rattle.wire.specs.declared.varint.Varint.the-variants.{Incomplete, Whole}
 use Rattle.wire.specs.Bytes.{Bytes, num}

@@ -1,15 +1,5 @@
 -- Runs of bytes: addresses compared byte by byte, and bits beyond a prefix. Assumes nothing.
-use mathlib.Core.Path.{_≡_, refl, sym, _∙_}
-use mathlib.Core.Bool.{Bool, true, false, _&&_}
-use Prim.Native.Nat.{ℕ, suc, _+_, _-_, _*_, _%_, _^_, _≤_, _<_}
-use native.Mathlib.Nat.{mul-le-mul-right, mod-eq-of-lt}
-use native.Mathlib.Omega.{arith}
-use mathlib.Core.List.{List, [], _∷_}
-use lib.ListN.{length, getD, take, drop, length-drop}
-use lib.Seq.{drop-cons, length-take-le}
-use lib.Pow.{pow-pos, pow-lt}
-use lib.Dec.{ltb, eqb}
-use borrow.Author.Tests.{lt-ltb, le-ltb, eq-eqb, ne-eqb, ltb-true, ltb-false}
+use Rattle.walks.proofs.Words.{_≡_, refl, sym, _∙_, Bool, true, false, _&&_, ℕ, suc, _+_, _-_, _*_, _%_, _^_, _≤_, _<_, mul-le-mul-right, mod-eq-of-lt, arith, List, [], _∷_, length, getD, take, drop, length-drop, drop-cons, length-take-le, pow-pos, pow-lt, ltb, eqb, lt-ltb, le-ltb, eq-eqb, ne-eqb, ltb-true, ltb-false}
 use Rattle.wire.specs.Bytes.{Bytes, num, numFrom}
 use Rattle.wire.proofs.Numbers.{numFrom-shift, num-lt, bytes-take, bytes-drop}
 use Rattle.addresses.specs.Addresses.{widthOf, clearBeyond}

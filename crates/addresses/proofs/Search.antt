@@ -1,18 +1,10 @@
 -- The search among the ranges of one version that stand before a range: they are clear from it exactly if the first one that is not wholly below it,
 -- or is for another protocol, is. Assumes nothing.
-use mathlib.Core.Path.{_≡_, refl, sym, ap, _∙_}
-use mathlib.Core.Bool.{Bool, true, false, _&&_, not, and-false, or-true}
-use Prim.Native.Nat.{ℕ, zero, suc, _+_, _-_, _*_, _/_, _≤_, _<_}
-use native.Mathlib.Nat.{suc-mul, le-div-iff-mul-le, mul-div-cancel, div-mul-le-self, mul-le-mul-left}
-use native.Mathlib.Omega.{arith}
-use mathlib.Core.List.{List, [], _∷_}
-use lib.ListN.{length, getD, take, drop}
+use Rattle.walks.proofs.Words.{_≡_, refl, sym, ap, _∙_, Bool, true, false, _&&_, and-false, or-true, ℕ, zero, suc, _+_, _-_, _*_, _/_, _≤_, _<_, suc-mul, le-div-iff-mul-le, mul-div-cancel, div-mul-le-self, mul-le-mul-left, arith, List, [], _∷_, length, getD, take, drop, ltb, eqb, lt-ltb, le-ltb, ltb-true, eq-eqb, eqb-true}
 use Rattle.wire.specs.Bytes.{num}
-use lib.Dec.{ltb, eqb}
-use borrow.Author.Tests.{lt-ltb, le-ltb, ltb-true, eq-eqb, eqb-true}
 use Rattle.wire.proofs.Reading.{split}
 use Rattle.addresses.proofs.Order.{both}
-use Rattle.addresses.specs.Addresses.{Range, allOf, disjoint, before}
+use Rattle.addresses.specs.Addresses.{Range, allOf, disjoint}
 use Rattle.addresses.specs.Pass.{clearFrom}
 use Rattle.addresses.specs.Places.{rangeIn, Stands, nth, Later, Rising}
 

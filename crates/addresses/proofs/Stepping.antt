@@ -1,11 +1,5 @@
 -- Calls that go on where the one before ended hand out a value's entries. Assumes nothing.
-use mathlib.Core.Path.{_≡_, refl, sym, ap, _∙_}
-use mathlib.Core.Option.{Option·map}
-use Prim.Native.Nat.{ℕ, zero, suc, _+_, _-_, _<_}
-use native.Mathlib.Omega.{arith}
-use mathlib.Core.List.{List, [], _∷_, _++_, map}
-use lib.ListN.{length, take, drop, length-drop, length-append}
-use lib.Seq.{drop-drop, drop-append-seam}
+use Rattle.walks.proofs.Words.{_≡_, refl, sym, ap, _∙_, Option·map, ℕ, zero, suc, _+_, _-_, _<_, arith, List, [], _∷_, _++_, map, length, take, drop, length-drop, length-append, drop-drop, drop-append-seam}
 use Rattle.addresses.specs.declared.Cursor.{Cursor}
 use Rattle.addresses.specs.Addresses.{Step, done, malformed, next, entries, entryAt, rangeAt}
 use Rattle.addresses.specs.Handing.{behind, answerFor, answerAt, collected, handedFrom, addressOf, blankAddress, addressAnswer, nextAddress, rangeOf, blankRange, rangeAnswer, nextRange}

@@ -1,11 +1,5 @@
 -- The tables hold, by computing the definitions. Assumes nothing.
-use mathlib.Core.Path.{_≡_, refl, ap, _∙_}
-use Prim.Native.Nat.{ℕ}
-use native.Mathlib.Omega.{arith}
-use mathlib.Core.Bool.{Bool, true, false}
-use mathlib.Core.Option.{none}
-use mathlib.Core.List.{List, _∷_, _++_}
-use lib.ListN.{length}
+use Rattle.walks.proofs.Words.{_≡_, refl, ap, _∙_, ℕ, arith, Bool, true, false, none, List, _∷_, _++_, length}
 use Rattle.refusals.specs.declared.Refusal.{Refusal}
 use Rattle.wire.specs.Bytes.{numFrom, num, bytesOf}
 use Rattle.wire.specs.Varint.{largest, sizeOf, valueOf, readVarint, encodeAs, leastWidth, encode}

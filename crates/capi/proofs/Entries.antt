@@ -1,9 +1,5 @@
 -- Entries handed out (specs/Claims.antt). Assumes nothing.
-use Prim.Native.Nat.{ℕ, _<_}
-use mathlib.Core.Path.{_≡_, refl}
-use mathlib.Core.List.{List}
-use native.Mathlib.Omega.{arith}
-use lib.ListN.{length, drop, length-drop}
+use Rattle.walks.proofs.Words.{ℕ, _<_, _≡_, refl, List, arith, length, drop, length-drop}
 use Rattle.addresses.specs.Addresses.{Step, done, malformed, next, entryAt, rangeAt}
 use Rattle.addresses.specs.Handing.{answerFor, answerAt, addressOf, blankAddress, addressAnswer, nextAddress, rangeOf, blankRange, rangeAnswer, nextRange}
 use Rattle.addresses.proofs.Reading.{entry-shrinks, range-shrinks}

@@ -1,16 +1,11 @@
 -- Calls on a reader that is kept in words (specs/Claims.antt). Assumes nothing.
 use Prim.{tt}
-use Prim.Native.Nat.{ℕ}
-use mathlib.Core.Path.{_≡_, refl, sym, ap, subst, _∙_}
-use mathlib.Core.Bool.{Bool, true, false, cond}
-use mathlib.Core.List.{List, [], _∷_}
-use native.Mathlib.Omega.{arith}
+use Rattle.walks.proofs.Words.{ℕ, _≡_, refl, sym, ap, subst, _∙_, Bool, true, false, cond, List, [], _∷_, arith, leb, eqb}
 use Rattle.refusals.specs.Numbers.{finished, unmakeableState}
 use Rattle.wire.specs.Bytes.{Bytes}
 use Rattle.wire.proofs.Parts.{parted, starts-le}
 use Rattle.wire.specs.Partial.{isPartial}
 use Rattle.wire.specs.Varint.{largest}
-use lib.Dec.{leb, eqb}
 use Rattle.capsule.specs.declared.reader.Phase.{Phase}
 use Rattle.capsule.specs.declared.reader.Phase.the-variants.{InType, InLength, InValue}
 use Rattle.capsule.specs.declared.reader.Reader.{Reader}

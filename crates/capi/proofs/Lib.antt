@@ -11,3 +11,4 @@ pub mod Sending
 pub mod TableCalls
 pub mod ShortWords
 pub mod Cases
+pub mod Told

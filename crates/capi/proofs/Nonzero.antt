@@ -1,12 +1,6 @@
 -- No refusal has number 0 (specs/Claims.antt): each is one of the numbers that stand in the definitions. Assumes nothing.
 use Prim.{Unit, tt}
-use Prim.Native.Nat.{ℕ, suc, _+_, _-_, _^_}
-use mathlib.Core.Bool.{Bool, true, false, cond, _&&_}
-use mathlib.Core.Option.{Option, none, some}
-use mathlib.Core.List.{List}
-use native.Mathlib.Omega.{arith}
-use lib.ListN.{length}
-use lib.Dec.{leb, ltb, eqb}
+use Rattle.walks.proofs.Words.{ℕ, suc, _+_, _-_, _^_, Bool, true, false, cond, _&&_, Option, none, some, List, arith, length, leb, ltb, eqb}
 use Rattle.refusals.specs.Numbers.{refusal, numberTooLarge, frameTooLong}
 use Rattle.wire.specs.declared.units.StreamId.{StreamId}
 use Rattle.wire.specs.declared.units.Quarter.{Quarter}

@@ -1,12 +1,5 @@
 -- Payloads and writers (specs/Claims.antt). Assumes nothing.
-use Prim.Native.Nat.{ℕ, _+_, _-_, _≤_}
-use mathlib.Core.Path.{_≡_, refl}
-use mathlib.Core.Bool.{Bool, true, false, cond, _&&_}
-use mathlib.Core.List.{List}
-use native.Mathlib.Omega.{arith}
-use lib.ListN.{length, take, drop, length-drop}
-use lib.Seq.{take-all, sets}
-use lib.Dec.{leb}
+use Rattle.walks.proofs.Words.{ℕ, _+_, _-_, _≤_, _≡_, refl, Bool, true, false, cond, _&&_, List, arith, length, take, drop, length-drop, take-all, sets, leb}
 use Rattle.refusals.specs.declared.Refusal.{Refusal}
 use Rattle.refusals.specs.Numbers.{numberTooLarge, frameTooLong}
 use Rattle.wire.specs.declared.units.Quarter.{Quarter}

@@ -1,7 +1,5 @@
 -- What the calls on a reader in words come to. Assumes nothing.
-use Prim.Native.Nat.{ℕ}
-use mathlib.Core.Path.{_≡_, sym, ap, _∙_}
-use mathlib.Core.List.{List}
+use Rattle.walks.proofs.Words.{ℕ, _≡_, sym, ap, _∙_, List}
 use Rattle.refusals.specs.declared.Refusal.{Refusal}
 use Rattle.refusals.specs.Numbers.{unmakeableState}
 use Rattle.capsule.specs.declared.reader.Reader.{Reader}

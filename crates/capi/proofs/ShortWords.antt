@@ -1,9 +1,5 @@
 -- Short ways on a reader in words. Assumes nothing.
-use Prim.Native.Nat.{ℕ, _+_, _-_, _≤_, _<_}
-use mathlib.Core.Path.{_≡_, refl, sym, ap, _∙_}
-use mathlib.Core.List.{List}
-use native.Mathlib.Omega.{arith}
-use lib.ListN.{length, getD, set}
+use Rattle.walks.proofs.Words.{ℕ, _+_, _-_, _≤_, _<_, _≡_, refl, sym, ap, _∙_, List, arith, length, getD, set}
 use Rattle.capsule.specs.declared.opening.Opening.{Opening}
 use Rattle.capsule.specs.declared.opening.Report.{Report}
 use Rattle.capsule.specs.declared.reader.Ended.the-variants.{Nothing, Capsule}

@@ -1,12 +1,5 @@
 -- The stored form of a reader (specs/Claims.antt). Assumes nothing.
-use Prim.Native.Nat.{ℕ, _+_, _*_, _%_, _≤_}
-use mathlib.Core.Path.{_≡_, refl, sym}
-use mathlib.Core.Bool.{Bool, true, false, cond, not, _&&_}
-use mathlib.Core.List.{List, [], _∷_}
-use native.Mathlib.Omega.{arith}
-use lib.ListN.{getD}
-use lib.Dec.{leb, ltb, eqb}
-use borrow.Author.Tests.{le-leb, leb-true, leb-false, ltb-true, ltb-false, eqb-true, eqb-false}
+use Rattle.walks.proofs.Words.{ℕ, _+_, _*_, _%_, _≤_, _≡_, refl, sym, Bool, true, false, cond, not, _&&_, List, [], _∷_, arith, getD, leb, ltb, eqb, le-leb, leb-true, leb-false, ltb-true, ltb-false, eqb-true, eqb-false}
 use Rattle.wire.specs.Partial.{partial}
 use Rattle.wire.proofs.Parts.{parted}
 use Rattle.capsule.specs.declared.opening.Role.{Role}

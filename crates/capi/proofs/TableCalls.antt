@@ -1,7 +1,5 @@
 -- Calls on a table (specs/Claims.antt), from the laws of the crate streams. Assumes nothing.
-use Prim.Native.Nat.{ℕ}
-use mathlib.Core.Path.{_≡_, refl}
-use mathlib.Core.Bool.{Bool}
+use Rattle.walks.proofs.Words.{_≡_, refl, Bool}
 use Rattle.wire.specs.declared.units.StreamId.{StreamId}
 use Rattle.streams.specs.declared.record.Side.{Side}
 use Rattle.streams.specs.declared.table.Opening.{Opening}

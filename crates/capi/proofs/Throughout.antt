@@ -1,20 +1,16 @@
 -- Lists of calls on a reader in words (specs/Claims.antt). Assumes nothing.
-use mathlib.Core.Path.{_≡_, refl, sym, ap, subst, _∙_}
-use mathlib.Core.Bool.{true}
-use mathlib.Core.Option.{none}
-use mathlib.Core.List.{List, [], _∷_}
-use Prim.Native.Nat.{ℕ}
+use Rattle.walks.proofs.Words.{_≡_, refl, sym, ap, subst, _∙_, none, List, [], _∷_, ℕ}
 use Rattle.capsule.specs.declared.reader.Reader.{Reader}
-use Rattle.capsule.specs.Calls.{Lent, Call, feed, close, Reply, run}
+use Rattle.capsule.specs.Calls.{feed, close, Reply, run}
 use Rattle.capsule.specs.Book.{newBook, bookCall}
 use Rattle.capsule.specs.State.{ofBook}
-use Rattle.capsule.specs.Reader.{opening, fresh, isMakeable, feedOf, closeOf, readerCall}
-use Rattle.capsule_laws.specs.Claims.{AllBytes, HandedOn}
+use Rattle.capsule.specs.Reader.{opening, fresh, feedOf, closeOf, readerCall}
+use Rattle.capsule_laws.specs.Claims.{HandedOn}
 use Rattle.capsule_laws.proofs.Lists.{open-fresh, demand-3}
 use Rattle.capi.specs.Numbers.{roleOf, flagOf}
 use Rattle.capi.specs.Words.{wordsOf}
-use Rattle.capi.specs.Reader.{openWords, feedWords, closeWords}
-use Rattle.capi.specs.Claims.{Numbers, fedIn, closedIn, wordsCall, runWords, numbersOf, runNumbers, Throughout, Demand3InWords}
+use Rattle.capi.specs.Reader.{feedWords, closeWords}
+use Rattle.capi.specs.Claims.{fedIn, closedIn, wordsCall, runWords, numbersOf, runNumbers, Throughout, Demand3InWords}
 use Rattle.capi.proofs.Keeping.{open-kept, reader-kept}
 
 pub throughout : Throughout

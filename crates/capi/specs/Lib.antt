@@ -11,4 +11,5 @@ pub mod Messages
 pub mod Sight
 pub mod Identifiers
 pub mod Claims
+pub mod Told
 pub mod Cases

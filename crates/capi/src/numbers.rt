@@ -6,6 +6,9 @@ use http::errors::ErrorOf;
 use refusals::Refusal;
 use streams::record::Side;
 
+// A status is a u16.
+const MAX_STATUS: u64 = 65535;
+
 pub(crate) fn wide(n: u8) -> u64
     ensures { λ r. ⌜ r ≡ n ⌝ }
 {
@@ -60,7 +63,7 @@ pub(crate) fn side_of(n: u64) -> Side
 pub(crate) fn status_of(n: u64) -> u16
     ensures { λ r. ⌜ r ≡ statusOf n ⌝ }
 {
-    if n > 65535 {
+    if n > MAX_STATUS {
         return 0;
     }
     n as u16

@@ -1,12 +1,5 @@
 -- The judgement of a value, as the code asks. Assumes nothing.
-use mathlib.Core.Path.{_≡_, refl, sym, ap, _∙_}
-use Prim.Native.Nat.{ℕ, _≤_, _<_}
-use native.Mathlib.Omega.{arith}
-use mathlib.Core.Bool.{Bool, true, false}
-use mathlib.Core.List.{List}
-use lib.ListN.{length, take}
-use lib.Seq.{take-all}
-use Rattle.capsule.specs.declared.opening.Report.{Report}
+use Rattle.walks.proofs.Words.{_≡_, sym, _∙_, ℕ, _<_, arith, Bool, true, false, List, length, take, take-all}
 use Rattle.capsule.specs.declared.opening.Report.the-variants.{AddressDelivered, Malformed}
 use Rattle.addresses.specs.Addresses.{wellFormed}
 use Rattle.capsule.specs.Kinds.{judged}

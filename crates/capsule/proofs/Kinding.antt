@@ -1,12 +1,6 @@
 -- What an opening makes of a type, as the code asks. Assumes nothing.
-use mathlib.Core.Path.{_≡_, refl, sym, ap, _∙_}
-use Prim.Native.Nat.{ℕ, _≤_, _<_}
-use native.Mathlib.Omega.{arith}
-use mathlib.Core.Bool.{Bool, true, false, cond, _&&_, _||_}
-use lib.Dec.{leb, eqb}
-use borrow.Author.Tests.{leb-true, le-leb, lt-leb, eq-eqb, ne-eqb}
+use Rattle.walks.proofs.Words.{_≡_, refl, sym, ap, _∙_, ℕ, _≤_, arith, Bool, true, false, cond, _&&_, _||_, leb, eqb, leb-true, le-leb, lt-leb, eq-eqb, ne-eqb}
 use Rattle.wire.proofs.Parts.{parted}
-use Rattle.capsule.specs.declared.opening.Kind.{Kind}
 use Rattle.capsule.specs.declared.opening.Kind.the-variants.{Datagram, Address, Unknown}
 use Rattle.capsule.specs.declared.opening.Opening.{Opening}
 use Rattle.addresses.specs.Addresses.{isAddressType}

@@ -1,12 +1,5 @@
 -- Bytes moved into the lent buffers. Assumes nothing.
-use mathlib.Core.Path.{_≡_, refl, sym, ap, _∙_}
-use Prim.Native.Nat.{ℕ, suc, _+_, _-_, _*_, _/_, _%_, _^_, _≤_, _<_}
-use native.Mathlib.Numerals.{add-one}
-use native.Mathlib.Omega.{arith}
-use mathlib.Core.Bool.{Bool, true, false}
-use mathlib.Core.List.{List}
-use lib.ListN.{length, take, drop, set, length-append}
-use lib.Seq.{sets, length-sets, length-take-le}
+use Rattle.walks.proofs.Words.{_≡_, refl, sym, ap, _∙_, ℕ, suc, _+_, _-_, _*_, _/_, _%_, _^_, _≤_, _<_, add-one, arith, Bool, true, false, List, length, take, set, length-append, sets, length-sets, length-take-le}
 use Rattle.spans.specs.Copy.{copying, copy}
 use Rattle.spans.proofs.Laws.{copied}
 use Rattle.wire.specs.declared.partial.Partial.{Partial}

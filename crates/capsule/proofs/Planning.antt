@@ -1,13 +1,5 @@
 -- What a feeding is to do. Assumes nothing.
-use mathlib.Core.Path.{_≡_, refl}
-use Prim.Native.Nat.{ℕ, _+_, _-_, _≤_, _<_}
-use native.Mathlib.Omega.{arith}
-use mathlib.Core.Bool.{Bool, true, false, cond, _&&_, _||_}
-use mathlib.Core.List.{List, _++_}
-use lib.ListN.{length, take, drop, length-append, length-drop}
-use lib.Seq.{take-all}
-use lib.Dec.{leb, ltb, eqb}
-use borrow.Author.Tests.{le-leb, lt-leb, leb-true, leb-false}
+use Rattle.walks.proofs.Words.{_≡_, refl, ℕ, _+_, _-_, _≤_, _<_, arith, Bool, true, false, cond, _&&_, _||_, List, _++_, length, take, drop, length-append, length-drop, take-all, leb, ltb, eqb, le-leb, lt-leb, leb-true, leb-false}
 use Rattle.wire.specs.declared.varint.Varint.{Varint}
 use Rattle.wire.specs.declared.varint.Varint.the-variants.{Incomplete, Whole}
 use Rattle.wire.specs.declared.partial.Partial.{Partial}
@@ -28,7 +20,7 @@ use Rattle.capsule.specs.declared.reader.Phase.{Phase}
 use Rattle.capsule.specs.declared.reader.Phase.the-variants.{InType, InLength, InValue}
 use Rattle.capsule.specs.declared.reader.Ended.the-variants.{Nothing, Capsule}
 use Rattle.addresses.specs.Addresses.{longestAddressValue}
-use Rattle.capsule.specs.Kinds.{optedBy, opted, kindOf, extentBy, extentOf, reportOf, forwardsBy, forwards, gathersBy, gathers, keepsBy, keeps}
+use Rattle.capsule.specs.Kinds.{opted, kindOf, extentBy, extentOf, reportOf, forwardsBy, forwards, gathersBy, gathers, keepsBy, keeps}
 use Rattle.capsule.specs.Reader.{noBytes, isMakeablePhase, planValue, planHead, planLength, planType, planOf, heldOf}
 
 -- ---- what cannot be

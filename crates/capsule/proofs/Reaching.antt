@@ -1,18 +1,11 @@
 -- What a piece comes to before the value, and the short way through a header. Assumes nothing.
-use mathlib.Core.Path.{_≡_, refl, sym, ap, _∙_}
-use Prim.Native.Nat.{ℕ, _+_, _-_, _*_, _%_, _^_, _≤_, _<_}
-use native.Mathlib.Omega.{arith}
-use mathlib.Core.Bool.{Bool, true, false}
-use lib.Dec.{leb, ltb, eqb}
-use borrow.Author.Tests.{eq-eqb, ne-eqb, eqb-true, le-leb, lt-leb, lt-ltb, le-ltb, leb-true, ltb-true, ltb-false}
-use mathlib.Core.List.{List, [], _∷_}
-use lib.ListN.{length, getD, take, drop, length-drop}
+use Rattle.walks.proofs.Words.{_≡_, refl, sym, ap, _∙_, ℕ, _+_, _-_, _*_, _%_, _≤_, _<_, arith, Bool, true, false, leb, ltb, eqb, eq-eqb, ne-eqb, eqb-true, le-leb, lt-leb, lt-ltb, le-ltb, leb-true, ltb-true, ltb-false, List, [], _∷_, length, getD, take, drop, length-drop}
 use Rattle.wire.specs.declared.partial.Partial.{Partial}
 use Rattle.wire.specs.declared.varint.Varint.the-variants.{Whole}
 use Rattle.wire.specs.declared.partial.Taken.the-variants.{Ends}
 use Rattle.wire.specs.Bytes.{num, numFrom}
 use Rattle.wire.specs.Varint.{readVarint}
-use Rattle.wire.specs.Partial.{partialOf, isPartial, takeVarint}
+use Rattle.wire.specs.Partial.{isPartial, takeVarint}
 use Rattle.wire.proofs.Reading.{front-one, front-whole}
 use Rattle.wire.proofs.Parts.{begins-whole, empty-is, starts-zero}
 use Rattle.capsule.specs.declared.opening.Opening.{Opening}
@@ -96,18 +89,18 @@ module _ (p : List ℕ) (l : 3 ≤ length p) (t : ℕ) (isT : t ≡ getD p 0 0) 
   unfolding shortHeader
   header-type h = rw (le-leb 3 (length p) l, lt-leb (getD p 0 0) 63 (omega arith))
 
-  module _ (h : t ≤ 63) (n : ℕ) (isN : n ≡ getD p 1 0) where
-    pub header-one : n < 64 → Short 2 t n ≡ shortHeader p
+  module _ (h : t ≤ 63) where
+    pub header-one : getD p 1 0 < 64 → (n : ℕ) → n ≡ getD p 1 0 → Short 2 t n ≡ shortHeader p
     unfolding shortHeader
-    header-one k = rw (le-leb 3 (length p) l, le-leb (getD p 0 0) 63 (omega arith), lt-ltb (getD p 1 0) 64 (omega arith), isT, isN)
+    header-one k n isN = rw (le-leb 3 (length p) l, le-leb (getD p 0 0) 63 (omega arith), lt-ltb (getD p 1 0) 64 k, isT, isN)
 
-    pub header-length : 127 < n → Long ≡ shortHeader p
+    pub header-length : 128 ≤ getD p 1 0 → Long ≡ shortHeader p
     unfolding shortHeader
     header-length k = rw (le-leb 3 (length p) l, le-leb (getD p 0 0) 63 (omega arith), le-ltb (getD p 1 0) 64 (omega arith), lt-leb (getD p 1 0) 127 (omega arith))
 
-    pub header-two : (d : ℕ) → d ≡ getD p 2 0 → 64 ≤ n → n ≤ 127 → Short 3 t ((n - 64) * 256 + d) ≡ shortHeader p
+    pub header-two : 64 ≤ getD p 1 0 → getD p 1 0 < 128 → (n d : ℕ) → n ≡ getD p 1 0 - 64 → d ≡ getD p 2 0 → Short 3 t (n * 256 + d) ≡ shortHeader p
     unfolding shortHeader
-    header-two d isD j k =
+    header-two j k n d isN isD =
         rw (le-leb 3 (length p) l, le-leb (getD p 0 0) 63 (omega arith), le-ltb (getD p 1 0) 64 (omega arith), le-leb (getD p 1 0) 127 (omega arith), isT, isN, isD)
 
 -- what a short header comes to

@@ -1,13 +1,5 @@
 -- The short ways of a feeding. Assumes nothing.
-use mathlib.Core.Path.{_≡_, refl, sym, ap, _∙_}
-use Prim.Native.Nat.{ℕ, _+_, _-_, _≤_, _<_}
-use native.Mathlib.Omega.{arith}
-use mathlib.Core.Bool.{Bool, true, false, cond, _&&_}
-use mathlib.Core.List.{List}
-use lib.ListN.{length, take, getD}
-use lib.Seq.{sets}
-use lib.Dec.{leb, ltb}
-use borrow.Author.Tests.{le-leb, lt-leb, lt-ltb, le-ltb}
+use Rattle.walks.proofs.Words.{_≡_, refl, sym, ap, _∙_, ℕ, _+_, _-_, _≤_, _<_, arith, Bool, true, false, cond, List, length, take, getD, sets, leb, le-leb, lt-leb}
 use Rattle.refusals.specs.declared.Refusal.{Refusal}
 use Rattle.refusals.specs.Numbers.{unmakeableState}
 use Rattle.wire.specs.Partial.{isPartial, starts}
@@ -26,17 +18,14 @@ use Rattle.capsule.specs.declared.plan.Reached.the-variants.{Value}
 use Rattle.capsule.specs.declared.reader.Phase.the-variants.{InType, InValue}
 use Rattle.capsule.specs.declared.reader.Reader.{Reader}
 use Rattle.capsule.specs.declared.reader.Ended.the-variants.{Nothing, Capsule}
-use Rattle.capsule.specs.declared.reader.FeedAnswer.{FeedAnswer}
 use Rattle.capsule.specs.declared.reader.FeedAnswer.the-variants as fedAs
 use Rattle.capsule.specs.declared.reader.Verdict.{Verdict}
 use Rattle.capsule.specs.declared.reader.Verdict.the-variants.{Accepted, Refused}
-use Rattle.capsule.specs.declared.short.Whole.{Whole}
 use Rattle.capsule.specs.declared.short.Whole.the-variants as wholeAs
-use Rattle.capsule.specs.declared.short.Inside.{Inside}
 use Rattle.capsule.specs.declared.short.Inside.the-variants as insideAs
 use Rattle.capsule.specs.Kinds.{kindOf, extentBy, extentOf, reportBy, reportOf, judged, finishes, finishesIn, forwards, gathers, keepsBy, keeps}
 use Rattle.capsule.specs.Calls.{Lent, lent, lentVerdict}
-use Rattle.capsule.specs.Reader.{noBytes, fresh, isOpening, isMakeablePhase, isMakeable, verdictOf, planValue, planType, planOf, heldOf, wrote, stored, lengthOf, judgedIn, Feeding, feeding, takeOf, feedOf}
+use Rattle.capsule.specs.Reader.{noBytes, fresh, isOpening, isMakeablePhase, isMakeable, verdictOf, planValue, planType, planOf, heldOf, wrote, stored, lengthOf, judgedIn, Feeding, feeding, feedOf}
 use Rattle.capsule.specs.Moves.{Wrote}
 use Rattle.capsule.specs.Short.{shortHeader, isPlain, isShort, WholeFed, wholeFed, wholeIn, wholeBy, wholeOf, inValue, InsideFed, insideFed, insideIn, insideBy, insideOf}
 use Rattle.capsule.proofs.Planning.{zero-one, value-ends, value-goes}
@@ -138,9 +127,9 @@ module _ (op : Opening) (p : List ℕ) (b : Lent) where
   unfolding wholeOf isShort
   whole-address at t n e q = rw (e, q)
 
-  whole-is : (at t n : ℕ) → shortHeader p ≡ Short at t n → isPlain (kindOf op t) ≡ true → (f : Feeding) → f ≡ feedOf (fresh op) p b → wholeBy f ≡ wholeOf op p b
+  whole-is : (at t n : ℕ) → shortHeader p ≡ Short at t n → isPlain (kindOf op t) ≡ true → (f : Feeding) → f ≡ feedOf (fresh op) p b → wholeBy b f ≡ wholeOf op p b
   unfolding wholeOf isShort
-  whole-is at t n e q f isF = rw (e, q) (ap wholeBy isF)
+  whole-is at t n e q f isF = rw (e, q) (ap (wholeBy b) isF)
 
   pub whole-refused : (why : Refusal) → Refused why ≡ verdictOf (fresh op) (length p) (length (b .gathering)) (length (b .addresses)) (length (b .output)) → wholeFed wholeAs.Not b ≡ wholeOf op p b
   unfolding wholeIn
@@ -246,9 +235,9 @@ module _ (op : Opening) (p : List ℕ) (b : Lent) (c : getD p 2 0 < 256) where
 -- ---- within a value
 
 module _ (op : Opening) (t n left : ℕ) (p : List ℕ) (b : Lent) where
-  inside-is : isPlain (kindOf op t) ≡ true → (f : Feeding) → f ≡ feedOf (inValue op t n left) p b → insideBy f ≡ insideOf op t n left p b
+  inside-is : isPlain (kindOf op t) ≡ true → (f : Feeding) → f ≡ feedOf (inValue op t n left) p b → insideBy b f ≡ insideOf op t n left p b
   unfolding insideOf
-  inside-is q f isF = rw q (ap insideBy isF)
+  inside-is q f isF = rw q (ap (insideBy b) isF)
 
   pub inside-address : isPlain (kindOf op t) ≡ false → insideFed insideAs.Not b ≡ insideOf op t n left p b
   unfolding insideOf

@@ -2,7 +2,6 @@
 use Prim.Native.Nat.{ℕ}
 use mathlib.Core.Bool.{Bool, true, false, cond, _&&_, _||_}
 use mathlib.Core.List.{List, []}
-use lib.ListN.{take}
 use lib.Dec.{leb, eqb}
 use Rattle.capsule.specs.declared.opening.Role.{Role}
 use Rattle.capsule.specs.declared.opening.Role.the-variants.{Endpoint, Intermediary}

@@ -53,20 +53,20 @@ pub record WholeFed : Type 0 where
 abbrev pub wholeFed : Whole → Lent → WholeFed
 wholeFed a b = record { answer = a; buffers = b }
 
--- a capsule ended, or the piece ended in its value
-unfoldable pub wholeIn : FeedAnswer → Phase → Whole
-wholeIn (fedAs.Refused r) phase = wholeAs.Not
-wholeIn (fedAs.Took consumed written (Capsule r)) phase = wholeAs.Took consumed written r
-wholeIn (fedAs.Took consumed written Nothing) (InType part) = wholeAs.Not
-wholeIn (fedAs.Took consumed written Nothing) (InLength t part) = wholeAs.Not
-wholeIn (fedAs.Took consumed written Nothing) (InValue t n left) = wholeAs.Cut written t n left
+-- a capsule ended, or the piece ended in its value; wherever the answer is Not, the buffers are those lent
+unfoldable pub wholeIn : Lent → FeedAnswer → Phase → Lent → WholeFed
+wholeIn b (fedAs.Refused r) phase after = wholeFed wholeAs.Not b
+wholeIn b (fedAs.Took consumed written (Capsule r)) phase after = wholeFed (wholeAs.Took consumed written r) after
+wholeIn b (fedAs.Took consumed written Nothing) (InType part) after = wholeFed wholeAs.Not b
+wholeIn b (fedAs.Took consumed written Nothing) (InLength t part) after = wholeFed wholeAs.Not b
+wholeIn b (fedAs.Took consumed written Nothing) (InValue t n left) after = wholeFed (wholeAs.Cut written t n left) after
 
-abbrev pub wholeBy : Feeding → WholeFed
-wholeBy f = wholeFed (wholeIn (f .answer) (f .reader .phase)) (f .buffers)
+abbrev pub wholeBy : Lent → Feeding → WholeFed
+wholeBy b f = wholeIn b (f .answer) (f .reader .phase) (f .buffers)
 
 -- the feeding of a reader between two capsules, where a short header stands at the front of the piece
 unfoldable pub wholeOf : Opening → List ℕ → Lent → WholeFed
-wholeOf op p b = cond (isShort op (shortHeader p)) (wholeBy (feedOf (fresh op) p b)) (wholeFed wholeAs.Not b)
+wholeOf op p b = cond (isShort op (shortHeader p)) (wholeBy b (feedOf (fresh op) p b)) (wholeFed wholeAs.Not b)
 
 -- ---- a piece within a value
 
@@ -80,14 +80,14 @@ pub record InsideFed : Type 0 where
 abbrev pub insideFed : Inside → Lent → InsideFed
 insideFed a b = record { answer = a; buffers = b }
 
-unfoldable pub insideIn : FeedAnswer → Inside
-insideIn (fedAs.Refused r) = insideAs.Not
-insideIn (fedAs.Took consumed written Nothing) = insideAs.Took written
-insideIn (fedAs.Took consumed written (Capsule r)) = insideAs.Ended consumed written r
+unfoldable pub insideIn : Lent → FeedAnswer → Lent → InsideFed
+insideIn b (fedAs.Refused r) after = insideFed insideAs.Not b
+insideIn b (fedAs.Took consumed written Nothing) after = insideFed (insideAs.Took written) after
+insideIn b (fedAs.Took consumed written (Capsule r)) after = insideFed (insideAs.Ended consumed written r) after
 
-abbrev pub insideBy : Feeding → InsideFed
-insideBy f = insideFed (insideIn (f .answer)) (f .buffers)
+abbrev pub insideBy : Lent → Feeding → InsideFed
+insideBy b f = insideIn b (f .answer) (f .buffers)
 
 -- the feeding of a reader in a value
 unfoldable pub insideOf : Opening → ℕ → ℕ → ℕ → List ℕ → Lent → InsideFed
-insideOf op t n left p b = cond (isPlain (kindOf op t)) (insideBy (feedOf (inValue op t n left) p b)) (insideFed insideAs.Not b)
+insideOf op t n left p b = cond (isPlain (kindOf op t)) (insideBy b (feedOf (inValue op t n left) p b)) (insideFed insideAs.Not b)

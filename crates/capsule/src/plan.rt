@@ -13,6 +13,7 @@ use crate::reader::Ended;
 use crate::reader::Phase;
 use wire::partial::Partial;
 use wire::partial::Taken;
+use wire::varint::Varint;
 
 pub struct Plan {
     pub next: Phase,
@@ -151,24 +152,24 @@ pub(crate) fn short_header(piece: &[u8]) -> Header
         return Header::Long;
     }
     let ctype = wide(piece[0]);
-    if ctype > 63 {
+    if ctype > Varint::MAX_OF_1 {
         return Header::Long;
     }
-    let length = wide(piece[1]);
-    if length < 64 {
+    let first = piece[1];
+    if first < Varint::FIRST_OF_2 {
         return Header::Short {
             at: 2,
             ctype: ctype,
-            size: length,
+            size: wide(first),
         };
     }
-    if length > 127 {
+    if first >= Varint::FIRST_OF_4 {
         return Header::Long;
     }
     Header::Short {
         at: 3,
         ctype: ctype,
-        size: (length - 64) * 256 + wide(piece[2]),
+        size: wide(first - Varint::FIRST_OF_2) * 256 + wide(piece[2]),
     }
 }
 

@@ -20,6 +20,7 @@ use crate::plan::plan_of;
 use addresses::well_formed;
 use refusals::Refusal;
 use wire::partial::Partial;
+use wire::varint::Varint;
 
 // How far the capsule that stands at the end of the stream has come.
 pub enum Phase {
@@ -83,10 +84,10 @@ pub enum Verdict {
 pub(crate) fn is_makeable_value(op: Opening, ctype: u64, length: u64, left: u64) -> bool
     ensures { λ r. ⌜ r ≡ isMakeablePhase op (InValue ctype length left) ⌝ }
 {
-    if ctype > 4611686018427387903 {
+    if ctype > Varint::MAX {
         return false;
     }
-    if length > 4611686018427387903 {
+    if length > Varint::MAX {
         return false;
     }
     if left == 0 {
@@ -102,7 +103,7 @@ fn is_makeable_phase(op: Opening, phase: Phase) -> bool
     match phase {
         Phase::InType(part) => part.is_possible(),
         Phase::InLength(ctype, part) => {
-            if ctype > 4611686018427387903 {
+            if ctype > Varint::MAX {
                 return false;
             }
             part.is_possible()

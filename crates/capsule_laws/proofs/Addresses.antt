@@ -1,12 +1,5 @@
 -- Address capsules, for every role, limit, draft setting and opting in. Assumes nothing.
-use mathlib.Core.Path.{_≡_, refl, sym, ap, _∙_, subst}
-use Prim.Native.Nat.{ℕ, _+_, _-_, _≤_, _<_}
-use native.Mathlib.Omega.{arith}
-use mathlib.Core.Bool.{Bool, true, false, cond, _&&_, _||_}
-use mathlib.Core.List.{List}
-use lib.ListN.{length}
-use lib.Dec.{leb, eqb}
-use borrow.Author.Tests.{leb-true, leb-false, le-leb, lt-leb}
+use Rattle.walks.proofs.Words.{_≡_, refl, sym, ap, _∙_, subst, _↔_, inl, inr, ℕ, _+_, _≤_, _<_, arith, Bool, true, false, cond, _&&_, _||_, List, length, leb, eqb, leb-true, leb-false, le-leb, lt-leb, eqb-true, eq-eqb}
 use Rattle.refusals.specs.Numbers.{unmakeableState, finished, gatheringTooShort, addressesTooShort, outputTooShort}
 use Rattle.refusals.specs.declared.Refusal.{Refusal}
 use Rattle.wire.proofs.Parts.{both, parted}
@@ -17,7 +10,7 @@ use Rattle.capsule.specs.declared.opening.Kind.{Kind}
 use Rattle.capsule.specs.declared.opening.Kind.the-variants.{Datagram, Address, Unknown}
 use Rattle.capsule.specs.declared.opening.Opening.{Opening}
 use Rattle.capsule.specs.declared.opening.Report.{Report}
-use Rattle.capsule.specs.declared.opening.Report.the-variants.{Delivered, Dropped, Skipped, Passed, AddressDelivered, Malformed}
+use Rattle.capsule.specs.declared.opening.Report.the-variants.{Delivered, Dropped, AddressDelivered, Malformed}
 use Rattle.capsule.specs.declared.reader.FeedAnswer.the-variants as fedAs
 use Rattle.capsule.specs.declared.reader.Reader.{Reader}
 use Rattle.capsule.specs.declared.reader.Verdict.{Verdict}
@@ -236,18 +229,34 @@ keeps-exactly op t n = (
     only Unknown h f = unfold keepsBy in no-true f
 
 -- by the tests of the kind
-by-tests : (op : Opening) (t : ℕ) (d a : Bool) → eqb t 0 || (op .draft && eqb t 0xff37a5) ≡ d → opted op && isAddressType t ≡ a → kindOf op t ≡ cond d Datagram (cond a Address Unknown)
+pub by-tests : (op : Opening) (t : ℕ) (d a : Bool) → eqb t 0 || (op .draft && eqb t 0xff37a5) ≡ d → opted op && isAddressType t ≡ a → kindOf op t ≡ cond d Datagram (cond a Address Unknown)
 unfolding kindOf
 by-tests op t d a e f = λ i. cond (e i) Datagram (cond (f i) Address Unknown)
+
+-- the test of a DATAGRAM's type
+pub datagram-test : (op : Opening) (t : ℕ) → (eqb t 0 || (op .draft && eqb t 0xff37a5) ≡ true) ↔ IsDatagram op t
+datagram-test op t = (λ e. says (eqb t 0) refl e, holds)
+  where
+    says : (z : Bool) → eqb t 0 ≡ z → z || (op .draft && eqb t 0xff37a5) ≡ true → IsDatagram op t
+    says true e f = inl (eqb-true t 0 e)
+    says false e f = let q = parted (op .draft) (eqb t 0xff37a5) f in inr (q .0, eqb-true t 0xff37a5 (q .1))
+
+    holds : IsDatagram op t → eqb t 0 || (op .draft && eqb t 0xff37a5) ≡ true
+    holds (inl e) = ap (λ (z : Bool). z || (op .draft && eqb t 0xff37a5)) (eq-eqb t 0 e)
+    holds (inr h) = go (eqb t 0)
+      where
+        go : (z : Bool) → z || (op .draft && eqb t 0xff37a5) ≡ true
+        go true = refl
+        go false = both (op .draft) (eqb t 0xff37a5) (h .0) (eq-eqb t 0xff37a5 (h .1))
 
 pub gathers-exactly : GathersExactly
 gathers-exactly op t n = (
   λ e. (unfold gathers in only (eqb t 0 || (op .draft && eqb t 0xff37a5)) (opted op && isAddressType t) refl refl e),
-  λ h. (unfold gathers gathersBy in rw (by-tests op t true (opted op && isAddressType t) (h .0) refl, le-leb n (op .limit) (h .1))),
+  λ h. (unfold gathers gathersBy in rw (by-tests op t true (opted op && isAddressType t) (datagram-test op t .1 (h .0)) refl, le-leb n (op .limit) (h .1))),
 )
   where
     only : (d a : Bool) → eqb t 0 || (op .draft && eqb t 0xff37a5) ≡ d → opted op && isAddressType t ≡ a → gathersBy (kindOf op t) (op .limit) n ≡ true → IsDatagram op t × (n ≤ op .limit)
-    only true a e f g = (e, leb-true n (op .limit) (unfold gathersBy in rw (by-tests op t true a e f) at g))
+    only true a e f g = (datagram-test op t .0 e, leb-true n (op .limit) (unfold gathersBy in rw (by-tests op t true a e f) at g))
     only false true e f g = no-true (unfold gathersBy in rw (by-tests op t false true e f) at g)
     only false false e f g = no-true (unfold gathersBy in rw (by-tests op t false false e f) at g)
 

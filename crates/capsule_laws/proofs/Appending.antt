@@ -1,14 +1,8 @@
 -- What the book makes of a piece, in one step: by what stands at the front of the tail and the piece. Assumes nothing.
-use mathlib.Core.Path.{_≡_, refl, sym, ap, _∙_, subst}
-use Prim.Native.Nat.{ℕ, suc, _+_, _-_, _≤_, _<_}
-use native.Mathlib.Omega.{arith}
-use mathlib.Core.Option.{none, some}
-use mathlib.Core.List.{List, [], _∷_, _++_, append-assoc, append-nil}
-use lib.ListN.{length, take, drop, length-append, take-append-drop}
-use lib.Seq.{drop-append-seam, length-take-le}
+use Rattle.walks.proofs.Words.{_≡_, refl, sym, ap, _∙_, subst, ℕ, suc, _+_, _-_, _≤_, _<_, arith, none, some, List, [], _∷_, _++_, append-assoc, append-nil, length, take, drop, length-append, take-append-drop, drop-append-seam, length-take-le}
 use Rattle.wire.specs.Bytes.{Bytes}
 use Rattle.capsule.specs.declared.opening.Opening.{Opening}
-use Rattle.capsule.specs.Grammar.{Extent, Stage, inType, Front, part, whole, frontBy, Capsule, capsuleAt, Parts, ahead, partsBy}
+use Rattle.capsule.specs.Grammar.{Extent, Stage, inType, Front, part, whole, frontBy, Capsule, capsuleAt, Parts, ahead}
 use Rattle.capsule.specs.Kinds.{extentOf}
 use Rattle.capsule.specs.Book.{partsFor, firstOf, completes, Taken, append}
 use Rattle.capsule_laws.proofs.Grammar.{Sees, front-is, sees, complete, next, parts-is, parts-cut, parts-nil, parts-append, parts-part, parts-one, part-none, tail-sees, tail-bytes}

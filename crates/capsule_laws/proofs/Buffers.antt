@@ -1,25 +1,15 @@
 -- What a feeding stores in the two buffers for values. Assumes nothing.
-use mathlib.Core.Path.{_≡_, refl, sym, ap, _∙_, subst}
-use Prim.Native.Nat.{ℕ, _+_, _-_, _≤_, _<_}
-use native.Mathlib.Omega.{arith}
-use mathlib.Core.Bool.{Bool, true, false, cond}
-use mathlib.Core.List.{List, _++_}
-use lib.ListN.{length, take, drop, length-append, length-drop}
-use lib.Seq.{sets, take-all, drop-append-add}
-use Rattle.wire.specs.Bytes.{Bytes}
+use Rattle.walks.proofs.Words.{_≡_, refl, sym, ap, _∙_, ℕ, _+_, _-_, _<_, arith, Bool, false, cond, List, _++_, length, take, drop, length-append, length-drop, sets, take-all, drop-append-add}
 use Rattle.capsule.specs.declared.opening.Opening.{Opening}
 use Rattle.capsule.specs.declared.plan.Plan.{Plan}
-use Rattle.capsule.specs.declared.reader.Verdict.{Verdict}
-use Rattle.capsule.specs.declared.reader.Verdict.the-variants.{Accepted}
 use Rattle.capsule.specs.Grammar.{inType, inLength, inValue, Front, part, whole, frontBy}
 use Rattle.capsule.specs.Kinds.{extentOf, gathers, keeps}
-use Rattle.capsule.specs.Calls.{Lent}
 use Rattle.capsule.specs.Book.{partsFor}
 use Rattle.capsule.specs.State.{phaseOf, readerOf}
-use Rattle.capsule.specs.Reader.{verdictOf, planHead, planOf, stored, Feeding, fedBy, takeOf, feedBy, feedOf}
+use Rattle.capsule.specs.Reader.{planHead, planOf, stored, Feeding, fedBy, takeOf, feedBy, feedOf}
 use Rattle.capsule.proofs.Planning.{zero-one}
-use Rattle.capsule_laws.specs.AddressClaims.{storedFrom, storedAt, Stored, BuffersExactly}
-use Rattle.capsule_laws.proofs.Grammar.{Sees, seesType, seesLength, seesValue, seesWhole}
+use Rattle.capsule_laws.specs.AddressClaims.{storedFrom, storedAt, BuffersExactly}
+use Rattle.capsule_laws.proofs.Grammar.{seesType, seesLength, seesValue, seesWhole}
 use Rattle.capsule_laws.proofs.Appending.{Shows, shows, tail-shows, for-bytes}
 use Rattle.capsule_laws.proofs.Plans.{planAt, plan-is}
 

@@ -1,11 +1,5 @@
 -- What a feeding adds to the forwarded bytes. Assumes nothing.
-use mathlib.Core.Path.{_≡_, refl, sym, ap, _∙_, subst}
-use Prim.Native.Nat.{ℕ, _+_, _-_, _<_}
-use native.Mathlib.Omega.{arith}
-use mathlib.Core.Bool.{Bool, true, false}
-use mathlib.Core.List.{List, [], _∷_, _++_, append-assoc, append-nil}
-use lib.ListN.{length, take, drop}
-use lib.Seq.{take-length, take-append-add}
+use Rattle.walks.proofs.Words.{_≡_, refl, sym, ap, _∙_, subst, ℕ, _+_, _-_, _<_, arith, Bool, true, false, List, [], _∷_, _++_, append-assoc, append-nil, length, take, drop, take-length, take-append-add}
 use Rattle.wire.specs.declared.varint.Varint.the-variants.{Incomplete, Whole}
 use Rattle.wire.specs.Bytes.{Bytes, bytesOf}
 use Rattle.wire.specs.Varint.{readVarint}
@@ -13,13 +7,13 @@ use Rattle.wire.specs.Partial.{heldBytes}
 use Rattle.wire.proofs.Reading.{reads, whole-incomplete}
 use Rattle.wire.proofs.Parts.{held-partial}
 use Rattle.capsule.specs.declared.opening.Opening.{Opening}
-use Rattle.capsule.specs.Grammar.{Extent, Stage, inType, inLength, inValue, Front, part, whole, frontBy, Capsule, capsuleAt, Parts, partsBy}
+use Rattle.capsule.specs.Grammar.{Extent, Stage, inType, inLength, inValue, Front, part, whole, frontBy, Capsule, capsuleAt, Parts}
 use Rattle.capsule.specs.Kinds.{extentOf, forwards}
 use Rattle.capsule.specs.Book.{partsFor, onlyIf, fromCapsules, fromTail, fromParts, forwarded}
 use Rattle.capsule.specs.State.{phaseAt}
 use Rattle.capsule.specs.Reader.{planHead, heldOf, wrote}
 use Rattle.capsule_laws.specs.Claims.{ForwardedGrows}
-use Rattle.capsule_laws.proofs.Grammar.{Sees, seesType, seesLength, seesValue, seesWhole, sees, complete, part-none}
+use Rattle.capsule_laws.proofs.Grammar.{Sees, seesType, seesLength, seesValue, seesWhole, part-none}
 use Rattle.capsule_laws.proofs.Appending.{one, Shows, shows, for-append, for-part, for-next, tail-shows, for-bytes, parts-goes, parts-ends}
 use Rattle.capsule_laws.proofs.Plans.{planAt}
 

@@ -1,12 +1,5 @@
 -- Each of the two buffers for values holds the value bytes that came. Assumes nothing.
-use mathlib.Core.Path.{_≡_, refl, sym, ap, _∙_, subst}
-use Prim.Native.Nat.{ℕ, _+_, _-_, _≤_}
-use native.Mathlib.Omega.{arith}
-use mathlib.Core.Bool.{Bool, true, false, cond}
-use mathlib.Core.List.{List, [], _++_, append-nil}
-use lib.ListN.{length, take, drop, length-append, length-drop}
-use lib.Seq.{take-length, drop-nil, take-at, drop-append-le, length-take-le, sets, sets-eq}
-use lib.Dec.{leb}
+use Rattle.walks.proofs.Words.{_≡_, refl, sym, ap, _∙_, subst, ℕ, _+_, _-_, _≤_, arith, Bool, true, false, cond, List, [], _++_, append-nil, length, take, drop, length-append, length-drop, take-length, drop-nil, take-at, drop-append-le, length-take-le, sets, sets-eq, leb}
 use Rattle.wire.specs.declared.varint.Varint.the-variants.{Whole}
 use Rattle.wire.specs.Varint.{readVarint}
 use Rattle.wire.proofs.Reading.{split, reads}

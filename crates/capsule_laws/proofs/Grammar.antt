@@ -1,12 +1,5 @@
 -- The grammar: its graph, and what more bytes do to it. Assumes nothing.
-use mathlib.Core.Path.{_≡_, refl, sym, _∙_}
-use Prim.Native.Nat.{ℕ, zero, suc, _+_, _≤_, _<_}
-use native.Mathlib.Omega.{arith}
-use native.Mathlib.Nat.{le-refl, not-suc-le-zero}
-use mathlib.Core.List.{List, [], _∷_, _++_, append-assoc}
-use lib.ListN.{length, take, drop, length-append, length-drop, take-append-drop}
-use lib.Seq.{take-append-le, drop-append-le, take-all, take-length, drop-length, take-take, take-nil, length-take-le}
-use borrow.Author.Tests.{le-leb, lt-leb}
+use Rattle.walks.proofs.Words.{_≡_, refl, sym, _∙_, ℕ, zero, suc, _+_, _≤_, _<_, arith, le-refl, not-suc-le-zero, List, [], _∷_, _++_, append-assoc, length, take, drop, length-append, length-drop, take-append-drop, take-append-le, drop-append-le, take-all, take-length, drop-length, take-take, take-nil, length-take-le, le-leb, lt-leb}
 use Rattle.wire.specs.declared.varint.Varint.{Varint}
 use Rattle.wire.specs.declared.varint.Varint.the-variants.{Incomplete, Whole}
 use Rattle.wire.specs.Bytes.{Bytes}

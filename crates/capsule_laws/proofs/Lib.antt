@@ -14,3 +14,9 @@ pub mod Plain
 pub mod Marks
 pub mod Addresses
 pub mod Buffers
+pub mod Reports
+pub mod Outputs
+pub mod Arising
+pub mod Counts
+pub mod ShortWays
+pub mod Consuming

@@ -1,13 +1,5 @@
 -- Demand 3: every list of calls. Assumes nothing.
-use mathlib.Core.Path.{_≡_, refl, sym, ap, _∙_, subst}
-use Prim.Native.Nat.{ℕ, suc, _+_, _-_, _≤_}
-use native.Mathlib.Omega.{arith}
-use mathlib.Core.Bool.{Bool, true, false, _||_}
-use mathlib.Core.Option.{Option, none, some}
-use mathlib.Core.List.{List, [], _∷_}
-use lib.ListN.{length, take, drop, length-append}
-use lib.Seq.{drop-append-seam, sets, length-take-le}
-use borrow.Author.Tests.{le-leb, lt-ltb, ne-eqb}
+use Rattle.walks.proofs.Words.{_≡_, refl, sym, ap, _∙_, subst, ℕ, suc, _+_, _-_, _≤_, arith, Bool, true, false, Option, none, some, List, [], _∷_, length, take, drop, length-append, drop-append-seam, sets, length-take-le, le-leb, lt-ltb, ne-eqb}
 use Rattle.refusals.specs.declared.Refusal.{Refusal}
 use Rattle.refusals.specs.Numbers.{finished}
 use Rattle.wire.specs.declared.partial.Partial.{Partial}
@@ -30,13 +22,13 @@ use Rattle.capsule.specs.declared.reader.Verdict.{Verdict}
 use Rattle.capsule.specs.declared.reader.Verdict.the-variants.{Accepted, Refused}
 use Rattle.capsule.specs.Grammar.{Stage, inType, inLength, inValue, part, Parts}
 use Rattle.addresses.specs.Addresses.{longestAddressValue}
-use Rattle.capsule.specs.Kinds.{opted, extentOf, finishesIn, gathers, keeps}
+use Rattle.capsule.specs.Kinds.{opted, extentOf, gathers, keeps}
 use Rattle.capsule.specs.Calls.{Lent, Call, feed, close, Reply, closed, run}
-use Rattle.capsule.specs.Book.{partsFor, onlyIf, forwarded, append, endedBy, payloadBy, Book, newBook, bookVerdict, gained, bookFeed, endOf, bookClose, bookCall}
+use Rattle.capsule.specs.Book.{partsFor, onlyIf, forwarded, append, Book, newBook, bookVerdict, gained, bookFeed, endOf, bookClose, bookCall}
 use Rattle.capsule.specs.State.{phaseAt, phaseOf, readerOf, ofBook}
 use Rattle.capsule.specs.Reader.{opening, fresh, isOpening, openOf, isMakeablePhase, isMakeable, verdictOf, planOf, heldOf, wrote, fedBy, takeOf, feedBy, feedOf, endAt, closing, closeOf, feedReply, closeReply, readerCall}
 use Rattle.capsule_laws.specs.Claims.{StandsAt, StandsBy, Stands, AllBytes, Agrees, Follows, leftBy, HandedOn, LentWell, Demand3, Demand3Standing}
-use Rattle.capsule_laws.proofs.Grammar.{Sees, seesType, seesLength, seesValue, head-fits}
+use Rattle.capsule_laws.proofs.Grammar.{seesType, seesLength, seesValue, head-fits}
 use Rattle.capsule_laws.proofs.Appending.{Shows, for-nil, tail-shows, for-bytes}
 use Rattle.capsule_laws.proofs.Gathering.{take-sets}
 use Rattle.capsule.proofs.Planning.{zero-one, no-true, keeps-opted, plan-fits, held-few}
@@ -86,7 +78,7 @@ unmarked k p b e = go (k .mark) refl
 
 -- ---- what is written stands at the output's front
 
-wrote-fits : (f : Bool) (held : Partial) (c : ℕ) (p o : List ℕ) → c ≤ length p → (f ≡ true → held .have + c ≤ length o) → length (wrote f held c p) ≤ length o
+pub wrote-fits : (f : Bool) (held : Partial) (c : ℕ) (p o : List ℕ) → c ≤ length p → (f ≡ true → held .have + c ≤ length o) → length (wrote f held c p) ≤ length o
 unfolding wrote onlyIf heldBytes
 wrote-fits true held c p o h g =
     omega (arith, g refl, length-append (bytesOf (held .have) (held .raw)) (take c p), length-bytesOf (held .have) (held .raw), length-take-le c p h)
@@ -341,9 +333,14 @@ demand-3-standing role limit draft addresses r e cs h l =
     let f = open-fresh role limit draft addresses r e in
     rw (f .1) (from-opening (opening role limit draft addresses) cs (f .0) h l)
 
-pub demand-3 : Demand3
-demand-3 role limit draft addresses r e cs h l =
+-- where the buffers are handed on, the gathered value bytes stand at their fronts
+pub handed-well : (role : Role) (limit : ℕ) (draft addresses : Bool) (r : Reader) → openOf role limit draft addresses ≡ opened.Ready r
+    → (cs : List Call) → AllBytes cs → HandedOn none (newBook (opening role limit draft addresses)) r cs → LentWell (newBook (opening role limit draft addresses)) cs
+handed-well role limit draft addresses r e cs h l =
     let f = open-fresh role limit draft addresses r e in
     let op = opening role limit draft addresses in
     let l′ : HandedOn none (newBook op) (ofBook (newBook op)) cs = subst (λ (x : Reader). HandedOn none (newBook op) x cs) (f .1 ∙ fresh-book op) l in
-    demand-3-standing role limit draft addresses r e cs h (lent-well (newBook op) none cs (fresh-open op (f .0)) h (fresh-ready op) l′)
+    lent-well (newBook op) none cs (fresh-open op (f .0)) h (fresh-ready op) l′
+
+pub demand-3 : Demand3
+demand-3 role limit draft addresses r e cs h l = demand-3-standing role limit draft addresses r e cs h (handed-well role limit draft addresses r e cs h l)

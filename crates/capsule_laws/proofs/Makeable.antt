@@ -1,14 +1,5 @@
 -- Which states opening, feeding and closing make, and what follows for every state. Assumes nothing.
-use mathlib.Core.Path.{_≡_, refl, sym, ap, _∙_, subst}
-use Prim.Native.Nat.{ℕ, zero, suc, _+_, _-_, _≤_, _<_}
-use native.Mathlib.Omega.{arith}
-use mathlib.Core.Bool.{Bool, true, false, cond, _&&_, _||_}
-use mathlib.Core.Option.{Option, none, some}
-use mathlib.Core.List.{List, [], _∷_, _++_}
-use lib.ListN.{length, drop, replicate, length-append, length-drop, length-replicate}
-use lib.Seq.{take-at, drop-at}
-use lib.Dec.{leb, ltb}
-use borrow.Author.Tests.{ltb-true, leb-true}
+use Rattle.walks.proofs.Words.{_≡_, refl, sym, ap, _∙_, subst, ℕ, zero, suc, _+_, _-_, _≤_, _<_, arith, Bool, true, false, cond, _&&_, List, [], _∷_, _++_, length, drop, replicate, length-append, length-drop, length-replicate, take-at, drop-at, leb, ltb, ltb-true, leb-true}
 use Rattle.refusals.specs.declared.Refusal.{Refusal}
 use Rattle.refusals.specs.Numbers.{unmakeableState, finished, gatheringTooShort, addressesTooShort, outputTooShort}
 use Rattle.wire.specs.declared.varint.Varint.the-variants.{Whole}
@@ -38,13 +29,13 @@ use Rattle.capsule.specs.Book.{partsFor, Taken, append, endedBy, Book, newBook,
 use Rattle.capsule.specs.State.{phaseAt, phaseOf, readerOf, ofBook}
 use Rattle.capsule.specs.Reader.{opening, fresh, isOpening, openOf, isMakeablePhase, isMakeable, verdictOf, planOf, fedBy, takeOf, feedBy, feedOf, endAt, closing, closeOf, readerCall}
 use Rattle.capsule_laws.specs.Claims.{StandsAt, StandsBy, AddressesWell, AllBytes, NoneIs, NeverUnmakeable, Makes, MakeableExactly, StaysMakeable, RefusedUnchanged, Progress, StateOfBook, StateOfPlainBook}
-use Rattle.capsule_laws.proofs.Grammar.{Sees, seesType, seesLength, seesValue}
-use Rattle.capsule.proofs.Planning.{zero-one, extent-most}
+use Rattle.capsule_laws.proofs.Grammar.{seesType, seesLength, seesValue}
+use Rattle.capsule.proofs.Planning.{zero-one}
 use Rattle.capsule.proofs.Verdicts.{Accepts, accepts, endpoint-lent, output-lent, accepted-makeable}
 use Rattle.capsule_laws.proofs.Appending.{Shows, for-nil, for-part, tail-shows, append-goes}
 use Rattle.capsule_laws.proofs.Steps.{Same, same}
 use Rattle.capsule_laws.proofs.Marks.{feed-opening, close-opening}
-use Rattle.capsule_laws.proofs.Lists.{Open, made-stream, made-book, verdict-same, unmarked, fed-by, left-by, book-by, open-fresh, fresh-book, fresh-open, none-kept, one-close}
+use Rattle.capsule_laws.proofs.Lists.{Open, made-stream, made-book, verdict-same, unmarked, fed-by, book-by, open-fresh, fresh-book, fresh-open, none-kept, one-close}
 
 -- ---- a stream that makes the phase
 
@@ -208,7 +199,7 @@ stays-makeable r p b h m = go (verdictOf r (length p) (length (b .gathering)) (l
     go (Refused why) = unfold feedBy in m
     go Accepted = unfold feedBy in take-makeable r p b h m
 
-close-makeable : (r : Reader) → isMakeable r ≡ true → isMakeable (closeOf r .reader) ≡ true
+pub close-makeable : (r : Reader) → isMakeable r ≡ true → isMakeable (closeOf r .reader) ≡ true
 unfolding closeOf isMakeable
 close-makeable r m = go (isMakeable r) (r .finished)
   where
@@ -359,12 +350,16 @@ made r e =
       makes = runs (r .opening) (w .stream) (w .stage) (w .seen) (w .bytes) (w .accepted) (r .finished) ∙ w .is;
     }
 
+pub opened-makeable : (role : Role) (limit : ℕ) (draft addresses : Bool) (r : Reader) → openOf role limit draft addresses ≡ opened.Ready r → isMakeable r ≡ true
+opened-makeable role limit draft addresses r e =
+    let f = open-fresh role limit draft addresses r e in
+    let op = opening role limit draft addresses in
+    subst (λ (x : Reader). isMakeable x ≡ true) (sym (f .1 ∙ fresh-book op)) (made-book (newBook op) (fresh-open op (f .0)))
+
 -- any calls with any buffers
 makeable : (r : Reader) → Makes r → isMakeable r ≡ true
 makeable r m =
-    let f = open-fresh (m .role) (m .limit) (m .draft) (m .addresses) (m .start) (m .opens) in
-    let op = opening (m .role) (m .limit) (m .draft) (m .addresses) in
-    let s : isMakeable (m .start) ≡ true = subst (λ (x : Reader). isMakeable x ≡ true) (sym (f .1 ∙ fresh-book op)) (made-book (newBook op) (fresh-open op (f .0))) in
+    let s = opened-makeable (m .role) (m .limit) (m .draft) (m .addresses) (m .start) (m .opens) in
     subst (λ (x : Reader). isMakeable x ≡ true) (m .makes) (calls-makeable (m .start) (m .calls) (m .bytes) s)
 
 pub makeable-exactly : MakeableExactly
@@ -372,7 +367,7 @@ makeable-exactly r = (made r, makeable r)
 
 -- ---- refusal 1 does not arise
 
-abbrev Fine : Verdict → Type 0
+abbrev pub Fine : Verdict → Type 0
 Fine Accepted = Unit {0}
 Fine (Refused r) = r .0 ≡ 1 → ⊥
 
@@ -394,7 +389,7 @@ addresses-fine true a v f = go (leb longestAddressValue a)
     go true = f
     go false = λ e. omega arith
 
-verdict-fine : (k : Book) (p : List ℕ) (b : Lent) → Fine (bookVerdict k p b)
+pub verdict-fine : (k : Book) (p : List ℕ) (b : Lent) → Fine (bookVerdict k p b)
 unfolding bookVerdict lentVerdict
 verdict-fine k p b = go (k .mark) (leb (k .opening .limit) (length (b .gathering)))
   where
@@ -406,7 +401,7 @@ verdict-fine k p b = go (k .mark) (leb (k .opening .limit) (length (b .gathering
     go false true = addresses-fine (opted (k .opening)) (length (b .addresses)) _ (output-fine (k .opening .role) (length p) (length (b .output)))
     go false false = λ e. omega arith
 
-other : (r : Refusal) → (r .0 ≡ 1 → ⊥) → refused r ≡ refused unmakeableState → ⊥
+pub other : (r : Refusal) → (r .0 ≡ 1 → ⊥) → refused r ≡ refused unmakeableState → ⊥
 other r h e = let d : r ≡ unmakeableState = cc in h (ap (λ (x : Refusal). x .0) d)
 
 feed-fine : (k : Book) (p : List ℕ) (v : Verdict) → Fine v → bookFeed k p v .1 ≡ refused unmakeableState → ⊥

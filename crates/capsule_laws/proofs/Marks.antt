@@ -1,9 +1,5 @@
 -- What sets the finished mark, and that nothing comes after it. Assumes nothing.
-use mathlib.Core.Path.{_≡_, refl, sym, ap, _∙_, subst}
-use Prim.Native.Nat.{ℕ}
-use mathlib.Core.Bool.{Bool, true, false, cond, _||_}
-use mathlib.Core.List.{List, [], _∷_, _++_, map}
-use lib.Dec.{leb}
+use Rattle.walks.proofs.Words.{_≡_, refl, sym, ap, _∙_, subst, ℕ, Bool, true, false, cond, _||_, List, [], _∷_, _++_, map, leb}
 use Rattle.refusals.specs.Numbers.{finished}
 use Rattle.capsule.specs.declared.opening.Opening.{Opening}
 use Rattle.capsule.specs.declared.reader.Verdict.{Verdict}
@@ -16,11 +12,11 @@ use Rattle.capsule.specs.declared.opening.Report.the-variants.{AddressDelivered
 use Rattle.capsule.specs.declared.reader.Ended.{Ended}
 use Rattle.capsule.specs.declared.reader.Ended.the-variants as ended
 use Rattle.capsule.specs.declared.reader.Ended.the-variants.{Nothing}
-use Rattle.capsule.specs.Grammar.{Capsule, parts}
+use Rattle.capsule.specs.Grammar.{Capsule}
 use Rattle.addresses.specs.Addresses.{longestAddressValue}
 use Rattle.capsule.specs.Kinds.{kindOf, extentBy, extentOf, reportBy, reportOf, judged, finishes, finishesIn}
-use Rattle.capsule.specs.Calls.{Lent, Call, feed, close, Reply, refused, fed, closed, run}
-use Rattle.capsule.specs.Book.{partsFor, append, reported, endedBy, Book, newBook, bookVerdict, bookFeed, bookClose, bookCall}
+use Rattle.capsule.specs.Calls.{Call, feed, close, Reply, refused, fed, closed, run}
+use Rattle.capsule.specs.Book.{partsFor, reported, Book, newBook, bookVerdict, bookFeed, bookClose, bookCall}
 use Rattle.capsule_laws.specs.Claims.{reportsIn, reports, Short, AllShort, marksIn, anyMarks, AllFinished, NothingAfter, MarkedExactly, NoneFinish, GrammarUnlessMalformed, UnmarkedGrammar}
 use Rattle.capsule.proofs.Planning.{no-true}
 use Rattle.capsule_laws.proofs.Orders.{whole-list}
@@ -93,7 +89,7 @@ short-by op t n v Address r e = go (leb n longestAddressValue) e
     go true f = refl
     go false f = no-true (sym (unfold judged finishes in f))
 
-short-report : (op : Opening) (t n : ℕ) (v : List ℕ) → finishes (judged (reportOf op t n) v) ≡ false → Short op t n
+pub short-report : (op : Opening) (t n : ℕ) (v : List ℕ) → finishes (judged (reportOf op t n) v) ≡ false → Short op t n
 unfolding reportOf extentOf
 short-report op t n v e = short-by op t n v (kindOf op t) (op .role) e
 
@@ -137,13 +133,3 @@ pub close-opening : (k : Book) (m : Bool) → bookClose k m .0 .opening ≡ k .o
 unfolding bookClose
 close-opening k true = refl
 close-opening k false = refl
-
-call-opening : (k : Book) (c : Call) → bookCall k c .0 .opening ≡ k .opening
-unfolding bookCall
-call-opening k (feed p b) = feed-opening k p (bookVerdict k p b)
-call-opening k close = close-opening k (k .mark)
-
-pub same-opening : (k : Book) (cs : List Call) → run bookCall k cs .0 .opening ≡ k .opening
-unfolding run
-same-opening k [] = refl
-same-opening k (c ∷ cs) = same-opening (bookCall k c .0) cs ∙ call-opening k c

@@ -1,42 +1,32 @@
 -- A reader that did not opt in answers as before request 4. Assumes nothing.
-use mathlib.Core.Path.{_≡_, refl, sym, ap, _∙_, subst}
-use Prim.Native.Nat.{ℕ, suc, _+_, _-_}
-use native.Mathlib.Omega.{arith}
-use mathlib.Core.Bool.{Bool, true, false, cond, _&&_, _||_}
-use mathlib.Core.Option.{Option, none, some}
-use mathlib.Core.List.{List, [], _∷_, _++_}
-use lib.ListN.{length, take, drop, length-drop}
-use lib.Dec.{leb, ltb, eqb}
+use Rattle.walks.proofs.Words.{_≡_, refl, ap, _∙_, ℕ, suc, _+_, _-_, arith, Bool, true, false, cond, _&&_, _||_, Option, none, some, List, [], _∷_, _++_, length, take, drop, length-drop, leb, eqb}
 use Rattle.wire.specs.declared.partial.Partial.{Partial}
 use Rattle.wire.specs.declared.partial.Taken.the-variants.{Impossible, More, Ends}
 use Rattle.wire.specs.declared.partial.Taken as wire
 use Rattle.wire.specs.Partial.{takeVarint}
-use Rattle.wire.specs.Varint.{largest}
 use Rattle.capsule.specs.declared.opening.Role.{Role}
 use Rattle.capsule.specs.declared.opening.Role.the-variants.{Endpoint, Intermediary}
 use Rattle.capsule.specs.declared.opening.Kind.{Kind}
-use Rattle.capsule.specs.declared.opening.Kind.the-variants.{Datagram, Address, Unknown}
+use Rattle.capsule.specs.declared.opening.Kind.the-variants.{Datagram, Unknown}
 use Rattle.capsule.specs.declared.opening.Opening.{Opening}
 use Rattle.capsule.specs.declared.opening.Report.{Report}
-use Rattle.capsule.specs.declared.opening.Report.the-variants.{Delivered, Dropped, Skipped, Passed, AddressDelivered, Malformed}
+use Rattle.capsule.specs.declared.opening.Report.the-variants.{Delivered, Dropped, Skipped, Passed}
 use Rattle.capsule.specs.declared.plan.Plan.{Plan}
 use Rattle.capsule.specs.declared.reader.Phase.{Phase}
 use Rattle.capsule.specs.declared.reader.Phase.the-variants.{InType, InLength, InValue}
 use Rattle.capsule.specs.declared.reader.Reader.{Reader}
 use Rattle.capsule.specs.declared.reader.Ended.{Ended}
 use Rattle.capsule.specs.declared.reader.Ended.the-variants.{Nothing, Capsule}
-use Rattle.capsule.specs.declared.reader.FeedAnswer.{FeedAnswer}
-use Rattle.capsule.specs.declared.reader.FeedAnswer.the-variants as fedAs
 use Rattle.capsule.specs.declared.reader.CloseAnswer.the-variants as closedAs
 use Rattle.refusals.specs.Numbers.{finished, unmakeableState}
 use Rattle.capsule.specs.declared.reader.Verdict.{Verdict}
 use Rattle.capsule.specs.declared.reader.Verdict.the-variants.{Accepted, Refused}
 use Rattle.capsule.specs.Grammar as grammar
-use Rattle.capsule.specs.Grammar.{Extent, plain, Stage, inType, inLength, inValue, Parts, partsBy, parts}
+use Rattle.capsule.specs.Grammar.{Extent, Stage, inType, inLength, inValue, partsBy, parts}
 use Rattle.capsule.specs.Kinds.{opted, kindOf, extentBy, extentOf, reportBy, reportOf, judged, finishes, finishesIn, onlyDelivered, forwardsBy, forwards, gathersBy, gathers, keepsBy, keeps}
-use Rattle.capsule.specs.Calls.{Lent, lent, Call, feed, close, Reply, addressesVerdict, lentVerdict, run}
-use Rattle.capsule.specs.Book.{partsFor, onlyIf, fromCapsules, fromTail, fromParts, forwarded, firstOf, completes, Taken, append, reported, endedBy, payloadBy, Book, bookVerdict, gained, bookFeed, bookClose, bookCall}
-use Rattle.capsule.specs.Reader.{noBytes, isOpening, isMakeablePhase, isMakeable, verdictOf, planValue, planHead, planLength, planType, planOf, heldOf, stored, lengthOf, judgedIn, feeding, fedBy, takeOf, feedBy, feedOf, endAt, closing, closeOf, frontOf, feedReply, closeReply, readerCall}
+use Rattle.capsule.specs.Calls.{Lent, lent, feed, close, addressesVerdict, lentVerdict, run}
+use Rattle.capsule.specs.Book.{partsFor, fromCapsules, fromTail, fromParts, forwarded, completes, Taken, append, reported, endedBy, payloadBy, Book, bookVerdict, gained, bookFeed, bookClose, bookCall}
+use Rattle.capsule.specs.Reader.{noBytes, isOpening, isMakeablePhase, isMakeable, verdictOf, planValue, planHead, planLength, planType, planOf, stored, lengthOf, judgedIn, feeding, fedBy, takeOf, feedBy, feedOf, endAt, closing, closeOf, frontOf, feedReply, readerCall}
 use Rattle.capsule.proofs.Planning.{length-impossible, length-more, length-ends, type-impossible, type-more, type-ends}
 use Rattle.capsule_laws.specs.Before as before
 use Rattle.capsule_laws.specs.Claims.{NotOptedGrammar, AsBefore, ClosesAsBefore, AnswersAsBefore, BookAsBefore}

@@ -1,18 +1,12 @@
 -- What the book reads for an opening, against document 01's grammar. Assumes nothing.
-use mathlib.Core.Path.{_≡_, refl, sym, ap, _∙_, subst}
-use Prim.Native.Nat.{ℕ, _+_, _-_, _≤_, _<_}
-use native.Mathlib.Omega.{arith}
-use mathlib.Core.List.{List, [], _∷_, _++_, append-nil}
-use lib.ListN.{length, take, drop}
-use lib.Seq.{drop-length}
-use Rattle.wire.proofs.Reading.{read-nil}
+use Rattle.walks.proofs.Words.{_≡_, sym, ap, _∙_, subst, ℕ, _+_, arith, List, [], _∷_, _++_, append-nil, length, take, drop, drop-length}
 use Rattle.capsule.specs.declared.opening.Opening.{Opening}
-use Rattle.capsule.specs.Grammar.{Extent, plain, Stage, inType, inLength, inValue, part, whole, Capsule, capsuleAt, Parts, ahead, partsBy, parts}
+use Rattle.capsule.specs.Grammar.{plain, Stage, inType, inValue, part, whole, Capsule, capsuleAt, Parts, ahead, partsBy, parts}
 use Rattle.capsule.specs.Kinds.{extentOf}
 use Rattle.capsule.specs.Book.{partsFor}
 use Rattle.capsule.proofs.Planning.{zero-one, extent-most}
 use Rattle.capsule_laws.specs.Claims.{Short, ShortStage, AllShort, ByTheGrammar, StopsAtTooLong}
-use Rattle.capsule_laws.proofs.Grammar.{Sees, seesType, seesLength, seesValue, seesWhole, complete, Cut, end, next, parts-is, parts-cut, tail-sees, parts-one}
+use Rattle.capsule_laws.proofs.Grammar.{Sees, seesType, seesLength, seesValue, seesWhole, Cut, end, next, parts-is, parts-cut, tail-sees, parts-one}
 use Rattle.capsule_laws.proofs.Appending.{one}
 
 -- a capsule of the grammar that is not too long is the book's

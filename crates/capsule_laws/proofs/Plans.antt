@@ -1,11 +1,5 @@
 -- A plan, in one step: by what stands at the front of the tail and the piece. Assumes nothing.
-use mathlib.Core.Path.{_≡_, refl, sym, ap, _∙_, subst}
-use Prim.Native.Nat.{ℕ, _+_, _-_, _≤_, _<_}
-use native.Mathlib.Omega.{arith}
-use mathlib.Core.Bool.{false}
-use mathlib.Core.List.{List, [], _++_}
-use lib.ListN.{length, take, drop, length-append, length-drop, take-append-drop}
-use lib.Seq.{take-append-le, drop-append-le, drop-append-add}
+use Rattle.walks.proofs.Words.{_≡_, refl, sym, ap, _∙_, subst, ℕ, _+_, _-_, _≤_, _<_, arith, false, List, [], _++_, length, take, drop, length-append, length-drop, take-append-drop, take-append-le, drop-append-le, drop-append-add}
 use Rattle.wire.specs.declared.varint.Varint.{Varint}
 use Rattle.wire.specs.declared.varint.Varint.the-variants.{Incomplete, Whole}
 use Rattle.wire.specs.declared.partial.Taken.the-variants.{More, Ends}
@@ -24,7 +18,7 @@ use Rattle.capsule.specs.Kinds.{extentOf, reportOf, forwards, gathers, keeps}
 use Rattle.capsule.specs.State.{phaseAt}
 use Rattle.capsule.specs.Reader.{noBytes, planValue, planHead, planLength, planType, planOf}
 use Rattle.capsule_laws.proofs.Appending.{Shows}
-use Rattle.capsule_laws.proofs.Grammar.{Sees, seesType, seesLength, seesValue, seesWhole, front-is, head-stays, head-fits}
+use Rattle.capsule_laws.proofs.Grammar.{seesType, seesLength, seesValue, seesWhole, front-is, head-stays, head-fits}
 use Rattle.capsule.proofs.Planning.{value-ends, value-goes, length-more, length-ends, type-more, type-ends}
 
 -- what is planned where `r` is the tail, `p` the piece, and the front of both is known

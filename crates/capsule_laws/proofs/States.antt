@@ -1,21 +1,18 @@
 -- The state after a list of calls, by the consumed bytes and the reader's own finished mark. Assumes nothing.
-use mathlib.Core.Path.{_≡_, refl, sym, ap, _∙_, subst}
-use Prim.Native.Nat.{ℕ}
-use mathlib.Core.Bool.{Bool, true, false, cond}
-use mathlib.Core.List.{List, [], _∷_, _++_, append-assoc, append-nil}
-use lib.ListN.{length, take}
-use lib.Seq.{take-length}
+use Rattle.walks.proofs.Words.{_≡_, refl, sym, ap, _∙_, subst, ℕ, Bool, true, false, cond, List, [], _∷_, _++_, append-assoc, append-nil, length, take, take-length}
 use Rattle.refusals.specs.Numbers.{unmakeableState, finished}
 use Rattle.wire.specs.Bytes.{Bytes}
+use Rattle.capsule.specs.declared.opening.Role.{Role}
 use Rattle.capsule.specs.declared.opening.Opening.{Opening}
+use Rattle.capsule.specs.declared.reader.Opened.the-variants.{Ready}
 use Rattle.capsule.specs.declared.reader.Reader.{Reader}
 use Rattle.capsule.specs.declared.reader.CloseAnswer.the-variants as closedAs
 use Rattle.capsule.specs.declared.reader.Verdict.{Verdict}
 use Rattle.capsule.specs.declared.reader.Verdict.the-variants.{Accepted, Refused}
-use Rattle.capsule.specs.Calls.{Lent, Call, feed, close, Reply, run}
+use Rattle.capsule.specs.Calls.{Lent, Call, feed, close, run}
 use Rattle.capsule.specs.Book.{partsFor, Taken, append, newBook}
 use Rattle.capsule.specs.State.{phaseOf, readerOf, ofBook}
-use Rattle.capsule.specs.Reader.{opening, isMakeable, verdictOf, planOf, fedBy, takeOf, feedBy, feedOf, feedReply, endAt, closing, closeOf, readerCall}
+use Rattle.capsule.specs.Reader.{opening, openOf, isMakeable, verdictOf, planOf, fedBy, takeOf, feedBy, feedOf, feedReply, endAt, closing, closeOf, readerCall}
 use Rattle.capsule_laws.specs.Claims.{CallBytes, AllBytes, consumedBy, consumedIn, StateDecided}
 use Rattle.capsule_laws.proofs.Appending.{Outcome, goes, ends, outcome}
 use Rattle.capsule_laws.proofs.Lists.{open-fresh, fresh-book}
@@ -71,9 +68,9 @@ module _ (op : Opening) (s : List ℕ) (f : Bool) (w : Bytes s) where
       go true false = unfold readerOf in rw append-nil (record { is = refl; bytes = w })
       go false m = nothing-more
 
-  one : (c : Call) → CallBytes c → let x = readerCall (readerOf op s f) c in Made op (s ++ consumedBy c (x .1)) (x .0)
-  one (feed p b) h = fed-on p b h
-  one close h = closed-on
+  pub made-call : (c : Call) → CallBytes c → let x = readerCall (readerOf op s f) c in Made op (s ++ consumedBy c (x .1)) (x .0)
+  made-call (feed p b) h = fed-on p b h
+  made-call close h = closed-on
 
 all : (op : Opening) (s : List ℕ) (f : Bool) (cs : List Call) → Bytes s → AllBytes cs
     → let x = run readerCall (readerOf op s f) cs in Made op (s ++ consumedIn cs (x .1)) (x .0)
@@ -82,13 +79,19 @@ all op s f [] w h = nothing-more op s f w
 all op s f (c ∷ cs) w h =
     let x = readerCall (readerOf op s f) c in
     let t = s ++ consumedBy c (x .1) in
-    let m = one op s f w c (h .0) in
+    let m = made-call op s f w c (h .0) in
     let rest = all op t (x .0 .finished) cs (m .bytes) (h .1) in
     let same : Made op (t ++ consumedIn cs (run readerCall (x .0) cs .1)) (run readerCall (x .0) cs .0) = subst (λ (r : Reader). Made op (t ++ consumedIn cs (run readerCall r cs .1)) (run readerCall r cs .0)) (sym (m .is)) rest in
     subst (λ (l : List ℕ). Made op l (run readerCall (x .0) cs .0)) (append-assoc s (consumedBy c (x .1)) (consumedIn cs (run readerCall (x .0) cs .1))) same
 
+module _ (role : Role) (limit : ℕ) (draft addresses : Bool) (r : Reader) (e : openOf role limit draft addresses ≡ Ready r) where
+  pub starts-at : r ≡ readerOf (opening role limit draft addresses) [] false
+  starts-at = open-fresh role limit draft addresses r e .1 ∙ (unfold ofBook newBook in fresh-book (opening role limit draft addresses))
+
+  pub made-calls : (cs : List Call) → AllBytes cs → Made (opening role limit draft addresses) (consumedIn cs (run readerCall r cs .1)) (run readerCall r cs .0)
+  made-calls cs h =
+      let op = opening role limit draft addresses in
+      subst (λ (x : Reader). Made op (consumedIn cs (run readerCall x cs .1)) (run readerCall x cs .0)) (sym starts-at) (all op [] false cs tt h)
+
 pub state-decided : StateDecided
-state-decided role limit draft addresses r e cs h =
-    let op = opening role limit draft addresses in
-    let start : r ≡ readerOf op [] false = open-fresh role limit draft addresses r e .1 ∙ (unfold ofBook newBook in fresh-book op) in
-    subst (λ (x : Reader). run readerCall x cs .0 ≡ readerOf op (consumedIn cs (run readerCall x cs .1)) (run readerCall x cs .0 .finished)) (sym start) (all op [] false cs tt h .is)
+state-decided role limit draft addresses r e cs h = made-calls role limit draft addresses r e cs h .is

@@ -1,12 +1,5 @@
 -- One accepted feeding: what the reader does is what the book says. Assumes nothing.
-use mathlib.Core.Path.{_≡_, refl, sym, ap, _∙_, subst}
-use Prim.Native.Nat.{ℕ, _+_, _-_, _≤_, _<_}
-use native.Mathlib.Omega.{arith}
-use mathlib.Core.Bool.{true}
-use mathlib.Core.Option.{none}
-use mathlib.Core.List.{List, [], _++_}
-use lib.ListN.{length, take, drop, length-drop}
-use lib.Seq.{take-length, length-take-le}
+use Rattle.walks.proofs.Words.{_≡_, refl, sym, ap, _∙_, subst, ℕ, _+_, _-_, _≤_, _<_, arith, true, none, List, [], _++_, length, take, drop, take-length}
 use Rattle.wire.specs.Bytes.{Bytes}
 use Rattle.wire.specs.Partial.{heldBytes}
 use Rattle.wire.proofs.Numbers.{bytes-append, bytes-take}
@@ -18,13 +11,13 @@ use Rattle.capsule.specs.declared.reader.Ended.{Ended}
 use Rattle.capsule.specs.declared.reader.Ended.the-variants.{Nothing, Capsule}
 use Rattle.capsule.specs.Grammar.{Stage, inType, inLength, inValue, Front, part, whole, frontBy, Parts}
 use Rattle.addresses.specs.Addresses.{longestAddressValue}
-use Rattle.capsule.specs.Kinds.{opted, extentOf, reportOf, judged, onlyDelivered, forwards, gathers, keeps}
+use Rattle.capsule.specs.Kinds.{opted, extentOf, forwards, gathers, keeps}
 use Rattle.capsule.specs.Book.{partsFor, onlyIf, forwarded, Taken, append, reported, endedBy, payloadBy}
 use Rattle.capsule.specs.State.{phaseAt, phaseOf}
-use Rattle.capsule.specs.Reader.{noBytes, planHead, planOf, heldOf, wrote, judgedIn, lengthOf, frontOf}
+use Rattle.capsule.specs.Reader.{noBytes, planHead, planOf, heldOf, wrote, judgedIn, frontOf}
 use Rattle.capsule_laws.specs.Claims.{StandsAt}
-use Rattle.capsule_laws.proofs.Grammar.{Sees, part-none}
-use Rattle.capsule_laws.proofs.Appending.{one, Shows, shows, tail-shows, for-bytes, parts-goes, parts-ends, append-goes, append-ends}
+use Rattle.capsule_laws.proofs.Grammar.{part-none}
+use Rattle.capsule_laws.proofs.Appending.{Shows, shows, tail-shows, for-bytes, parts-goes, parts-ends, append-goes, append-ends}
 use Rattle.capsule_laws.proofs.Plans.{planAt, plan-is}
 use Rattle.capsule_laws.proofs.Forwarding.{forwarded-goes, forwarded-ends}
 use Rattle.capsule_laws.proofs.Gathering.{after, goes-gathered, ends-gathered, goes-kept, ends-kept, same-report, same-payload}
@@ -48,13 +41,13 @@ next-is op r p inType = refl
 next-is op r p (inLength t j) = refl
 next-is op r p (inValue t n j) = refl
 
-count-is : (op : Opening) (r p : List ℕ) (y : Stage) → planAt op r p (part y) .consumed ≡ length p
+pub count-is : (op : Opening) (r p : List ℕ) (y : Stage) → planAt op r p (part y) .consumed ≡ length p
 unfolding planAt planHead
 count-is op r p inType = refl
 count-is op r p (inLength t j) = refl
 count-is op r p (inValue t n j) = refl
 
-nothing-is : (op : Opening) (r p : List ℕ) (y : Stage) → planAt op r p (part y) .ended ≡ Nothing
+pub nothing-is : (op : Opening) (r p : List ℕ) (y : Stage) → planAt op r p (part y) .ended ≡ Nothing
 unfolding planAt planHead
 nothing-is op r p inType = refl
 nothing-is op r p (inLength t j) = refl

@@ -1,13 +1,13 @@
 -- What holds of address capsules (RFC 9484; document 02, request 4) for every role, limit, draft setting and opting in. Proved in
 -- proofs/Addresses.antt and proofs/Buffers.antt.
 use mathlib.Core.Path.{_≡_}
-use mathlib.Core.Logic.{_↔_}
+use mathlib.Core.Logic.{_↔_, _⊎_}
 use Prim.Native.Nat.{ℕ, _+_, _-_, _≤_, _<_}
-use mathlib.Core.Bool.{Bool, true, false, cond, _&&_, _||_}
+use mathlib.Core.Bool.{Bool, true, false, cond, _&&_}
 use mathlib.Core.List.{List, _++_}
 use lib.ListN.{length, take, drop}
 use lib.Seq.{sets}
-use lib.Dec.{leb, eqb}
+use lib.Dec.{leb}
 use Rattle.refusals.specs.Numbers.{limitTooLarge, addressesTooShort}
 use Rattle.wire.specs.Bytes.{Bytes}
 use Rattle.addresses.specs.Addresses.{wellFormed}
@@ -68,9 +68,9 @@ AddressesTooShortExactly =
 
 -- ---- the two buffers for values
 
--- a DATAGRAM, of any reader
+-- a DATAGRAM, of any reader: type 0, and 0xff37a5 with the draft setting on
 abbrev pub IsDatagram : Opening → ℕ → Type 0
-IsDatagram op t = (eqb t 0 || (op .draft && eqb t 0xff37a5)) ≡ true
+IsDatagram op t = (t ≡ 0) ⊎ ((op .draft ≡ true) × (t ≡ 0xff37a5))
 
 -- the gathering buffer is for DATAGRAM values within the limit alone, the second one for address values that are not too long
 abbrev pub GathersExactly : Type 0

@@ -33,7 +33,7 @@ use Rattle.capsule.specs.declared.reader.Verdict.{Verdict}
 use Rattle.capsule.specs.declared.reader.Verdict.the-variants.{Accepted, Refused}
 use Rattle.capsule.specs.Grammar as grammar
 use Rattle.capsule.specs.Grammar.{Parts, parts}
-use Rattle.capsule.specs.Calls.{Lent, lent, Call, feed, close, Reply, refused, fed, closed, outputVerdict}
+use Rattle.capsule.specs.Calls.{Call, feed, close, Reply, refused, fed, closed, outputVerdict}
 use Rattle.capsule.specs.Book.{onlyIf, firstOf, Taken, Book, endOf}
 use Rattle.capsule.specs.Reader.{noBytes, isOpening, planHead, heldOf, wrote, stored, endAt, closing, closeReply}
 

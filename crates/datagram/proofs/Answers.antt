@@ -1,15 +1,8 @@
--- How judging decides, and the quarter and the place in an answer: each is told exactly from the rule on that needs it. Assumes nothing.
-use mathlib.Core.Path.{_≡_, refl, sym, ap, _∙_}
-use Prim.Native.Nat.{ℕ, _-_, _^_, _≤_, _<_}
-use native.Mathlib.Omega.{arith}
-use mathlib.Core.Bool.{Bool, true, false, cond}
-use mathlib.Core.Option.{Option, none, some}
-use mathlib.Core.List.{List}
-use lib.ListN.{length}
-use lib.Dec.{leb, ltb}
-use borrow.Author.Tests.{le-leb, lt-leb, lt-ltb, le-ltb}
+-- The quarter and the place in an answer, each told exactly from the rule on that needs it; and the payload. Assumes nothing.
+use Rattle.walks.proofs.Words.{_≡_, refl, sym, ap, _∙_, ℕ, _-_, _^_, _≤_, _<_, arith, Bool, true, false, cond, Option, none, some, List, [], length, leb, ltb}
 use Rattle.refusals.specs.declared.Refusal.{Refusal}
 use Rattle.refusals.specs.Numbers.{limitTooLarge, numberTooLarge, badTable}
+use Rattle.wire.specs.declared.units.Quarter.{Quarter}
 use Rattle.wire.specs.declared.varint.Varint.the-variants.{Incomplete, Whole}
 use Rattle.wire.specs.Varint.{readVarint}
 use Rattle.wire.specs.Units.{largestQuarter}
@@ -22,31 +15,10 @@ use Rattle.streams.specs.Tables.{Table, isBad, find, entryAt, entryOf}
 use Rattle.streams.proofs.Places.{find-right}
 use Rattle.datagram.specs.declared.judge.Judged.{Judged}
 use Rattle.datagram.specs.declared.judge.Judged.the-variants as judged
-use Rattle.datagram.specs.Judging.{judgedRecord, judgedEntry, judgedRead, ifAccepted, judgedOf, ruleOf, quarterIn, placeIn, entryPlace}
-use Rattle.datagram.specs.Claims.{JudgedDecided, QuarterRight, PlaceRight}
+use Rattle.datagram.specs.Judging.{judgedRecord, judgedEntry, judgedRead, ifAccepted, judgedOf, ruleOf, quarterIn, placeIn, entryPlace, afterQuarter, isDelivered, ifDelivered, payloadOf}
+use Rattle.datagram.specs.Claims.{QuarterRight, PlaceRight, PayloadExactly}
 
-pub judged-decided : JudgedDecided
-unfolding judgedOf judgedRead judgedEntry entryAt
-judged-decided t streams limit frame = (
-  λ b. rw b,
-  λ b. (
-    λ l. rw (b, lt-leb limit 65535 l),
-    λ l. (
-      λ s. rw (b, le-leb limit 65535 l, lt-leb streams (2 ^ 60) s),
-      λ s. (
-        λ v. rw (b, le-leb limit 65535 l, le-leb streams (2 ^ 60) s, v),
-        λ q size v. (
-          λ g. rw (b, le-leb limit 65535 l, le-leb streams (2 ^ 60) s, v, lt-leb q largestQuarter g),
-          λ g h. rw (b, le-leb limit 65535 l, le-leb streams (2 ^ 60) s, v, le-leb q largestQuarter g, le-ltb q streams h),
-          λ g h f. rw (b, le-leb limit 65535 l, le-leb streams (2 ^ 60) s, v, le-leb q largestQuarter g, lt-ltb q streams h, f),
-          λ i g h f. rw (b, le-leb limit 65535 l, le-leb streams (2 ^ 60) s, v, le-leb q largestQuarter g, lt-ltb q streams h, f),
-        ),
-      ),
-    ),
-  ),
-)
-
-no-some {ℓ} : {X : Type ℓ} {x : ℕ} → none ≡ some x → X
+pub no-some {ℓ} : {X : Type ℓ} {x : ℕ} → none ≡ some x → X
 no-some e = let z : _≡_ {A = ℕ} 0 1 = cc in absurd (let n : ⊥ = omega arith in n)
 
 -- what an answer tells, where q is what was read and `place` where its record stands
@@ -57,7 +29,7 @@ data Tells (q : ℕ) (place : Option ℕ) (j : Judged) : Type 0 where
 
 -- ---- what each answer tells
 
-one : (k n : ℕ) → some k ≡ some n → k ≡ n
+pub one : (k n : ℕ) → some k ≡ some n → k ≡ n
 one k n e = cc
 
 module _ (q : ℕ) (place : Option ℕ) where
@@ -145,4 +117,25 @@ place-right t streams limit frame = (
       let k = tells t streams limit frame q size e in
       (λ place p. find-right q place t (found-at t (find q t) place (same-place _ _ _ k place p)), place-told _ _ _ k),
   λ e. short-tells t streams limit frame e .1,
+)
+
+-- ---- the payload
+
+none-delivered : (j : Judged) (x : List ℕ) → ((p : Quarter) (place : ℕ) → j ≡ judged.Delivered p place → ⊥) → ifDelivered j x ≡ []
+unfolding ifDelivered isDelivered
+none-delivered (judged.Refused r) x n = refl
+none-delivered judged.ShortFrame x n = refl
+none-delivered (judged.QuarterTooLarge q) x n = refl
+none-delivered (judged.BeyondLimit q) x n = refl
+none-delivered (judged.NoStream q) x n = refl
+none-delivered (judged.ReceiveClosed q place) x n = refl
+none-delivered (judged.NoSemantics q place) x n = refl
+none-delivered (judged.TooLong q place) x n = refl
+none-delivered (judged.Delivered q place) x n = absurd (n q place refl)
+
+pub payload-exactly : PayloadExactly
+unfolding payloadOf afterQuarter
+payload-exactly t streams limit frame = (
+  λ p place q size d v. rw (d, v) (unfold ifDelivered isDelivered in refl),
+  λ n. none-delivered (judgedOf t streams limit frame) _ n,
 )

@@ -1,11 +1,5 @@
 -- Judging and sending, as the code decides them by what was looked up, and the part that is delivered. Assumes nothing.
-use mathlib.Core.Path.{_≡_, refl, ap, _∙_}
-use Prim.Native.Nat.{ℕ, _-_, _≤_}
-use native.Mathlib.Omega.{arith}
-use mathlib.Core.Bool.{Bool, true, false, cond}
-use mathlib.Core.List.{List, []}
-use lib.ListN.{length, take, drop, length-drop}
-use lib.Seq.{take-all}
+use Rattle.walks.proofs.Words.{_≡_, refl, ap, _∙_, ℕ, _-_, _≤_, arith, Bool, true, false, cond, List, [], length, take, drop, length-drop, take-all}
 use Rattle.refusals.specs.Numbers.{badTable, notARequestStream, framesNotAgreed, sendSideClosed, noSemantics}
 use Rattle.wire.specs.declared.varint.Varint.{Varint}
 use Rattle.wire.specs.declared.varint.Varint.the-variants.{Incomplete, Whole}

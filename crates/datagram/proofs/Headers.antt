@@ -1,13 +1,5 @@
 -- A header alone, beside the whole capsule or frame: both are written or both are refused, but for the room. Assumes nothing.
-use mathlib.Core.Path.{_≡_, refl, sym, ap, subst, _∙_}
-use Prim.Native.Nat.{ℕ, _+_, _≤_}
-use native.Mathlib.Omega.{arith}
-use mathlib.Core.Bool.{Bool, true, false, cond}
-use mathlib.Core.List.{List, [], _++_}
-use lib.ListN.{length, length-append}
-use lib.Seq.{sets}
-use lib.Dec.{leb}
-use borrow.Author.Tests.{le-leb, leb-true}
+use Rattle.walks.proofs.Words.{_≡_, refl, sym, ap, subst, _∙_, ℕ, _+_, _≤_, arith, Bool, true, false, cond, List, [], _++_, length, length-append, sets, leb, le-leb, leb-true}
 use Rattle.refusals.specs.declared.Refusal.{Refusal}
 use Rattle.refusals.specs.Numbers.{outputTooShort, numberTooLarge, frameTooLong}
 use Rattle.wire.specs.declared.units.Quarter.{Quarter}

@@ -2,6 +2,7 @@ pub mod RoundTrips
 pub mod Putting
 pub mod Deciding
 pub mod Answers
+pub mod Rules
 pub mod Refusals
 pub mod Framing
 pub mod Outgoing

@@ -1,15 +1,5 @@
 -- Writing a header and a payload in place. Assumes nothing.
-use mathlib.Core.Path.{_≡_, sym, ap, subst, _∙_}
-use Prim.Native.Nat.{ℕ, _+_, _≤_, _<_}
-use native.Mathlib.Omega.{arith}
-use native.Mathlib.Numerals.{add-one}
-use mathlib.Core.Bool.{Bool, cond}
-use mathlib.Core.List.{List, _∷_, _++_}
-use lib.ListN.{length, set, length-append}
-use lib.Seq.{sets, take-length, length-sets}
-use lib.Dec.{leb}
-use lib.Pow.{pow-mono}
-use borrow.Author.Tests.{le-leb, lt-leb}
+use Rattle.walks.proofs.Words.{_≡_, sym, ap, subst, _∙_, ℕ, _+_, _≤_, _<_, arith, add-one, Bool, cond, List, _∷_, _++_, length, set, length-append, sets, take-length, length-sets, leb, pow-mono, le-leb, lt-leb}
 use Rattle.refusals.specs.Numbers.{outputTooShort, numberTooLarge, frameTooLong}
 use Rattle.wire.specs.declared.varint.Written.{Written}
 use Rattle.wire.specs.declared.varint.Written.the-variants.{Refused, Wrote}

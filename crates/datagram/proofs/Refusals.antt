@@ -1,62 +1,55 @@
--- What is refused: no byte is written, and more than 64 records always are. Assumes nothing.
-use mathlib.Core.Path.{_≡_, ap}
-use Prim.Native.Nat.{ℕ, _+_}
-use native.Mathlib.Omega.{arith}
-use mathlib.Core.Bool.{Bool, true, false, cond}
-use mathlib.Core.List.{List}
-use lib.ListN.{length}
-use lib.Seq.{sets}
-use lib.Dec.{leb}
-use borrow.Author.Tests.{lt-ltb}
-use Rattle.refusals.specs.declared.Refusal.{Refusal}
+-- What the writers leave in the output; more than 64 records are always refused. Assumes nothing.
+use Rattle.walks.proofs.Words.{_≡_, refl, ℕ, _+_, _/_, arith, Bool, true, List, length, leb, lt-ltb}
 use Rattle.refusals.specs.Numbers.{frameTooLong, numberTooLarge}
-use Rattle.wire.specs.declared.varint.Written.the-variants.{Refused, Wrote}
-use Rattle.wire.specs.Writing.{Writing, writing, refuses, writeAt}
-use Rattle.streams.specs.Tables.{isBad}
+use Rattle.wire.specs.declared.units.StreamId.{StreamId}
+use Rattle.wire.specs.Varint.{encode}
+use Rattle.wire.specs.Claims.{Leaves}
+use Rattle.wire.proofs.Identifiers.{request-exactly}
+use Rattle.wire.proofs.Leaving.{refuses-leaves, if-leaves, at-leaves}
+use Rattle.streams.specs.Tables.{Table, isBad}
 use Rattle.datagram.specs.declared.write.Sending.{Sending}
 use Rattle.datagram.specs.declared.write.Sending.the-variants as sending
 use Rattle.datagram.specs.Judging.{judgedOf}
-use Rattle.datagram.specs.Sending.{frameBytes, sendingOf, agreed, putCapsule, putFrame, capsuleWritten, frameWritten, writeCapsule, writeFrame}
-use Rattle.datagram.specs.Claims.{RefusedWriteLeaves, TooManyRefused}
+use Rattle.datagram.specs.Sending.{capsuleHeader, capsuleBytes, frameBytes, sendingOf, agreed, putCapsule, putCapsuleHeader, putFrame, putFrameHeader, capsuleWritten, frameWritten, frameHeaderWritten, writeCapsule, writeFrame, writeFrameHeader}
+use Rattle.datagram.specs.Claims.{WritersLeave, TooManyRefused}
+use Rattle.datagram.proofs.Deciding.{sending-to}
 
-Leaves : List ℕ → Writing → Type 0
-Leaves out w = (why : Refusal) (after : List ℕ) → writing (Refused why) after ≡ w → after ≡ out
+-- the bytes of a capsule or a frame, or of its header
+put-leaves : (payload out : List ℕ) (place : ℕ) → Leaves (capsuleBytes payload) out place (putCapsule payload out place)
+unfolding putCapsule
+put-leaves payload out place = if-leaves _ out place (leb (length payload) 65535) (at-leaves (capsuleBytes payload) out place) (refuses-leaves _ out place numberTooLarge)
 
-refuses-leaves : (out : List ℕ) (r : Refusal) → Leaves out (refuses r out)
-unfolding Leaves refuses
-refuses-leaves out r why after e = ap (λ (w : Writing). w .output) e
+-- where a frame is sent, and its header
+module _ (t : Table) (id : StreamId) (settings : Bool) (path n : ℕ) (payload out : List ℕ) (place : ℕ) where
+  frame-leaves : (s : Sending) → sendingOf t id settings ≡ s
+      → Leaves (frameBytes (id .0 / 4) payload) out place (frameWritten s path payload out place) × Leaves (encode (id .0 / 4)) out place (frameHeaderWritten s path n out place)
+  unfolding frameWritten frameHeaderWritten putFrame putFrameHeader
+  frame-leaves (sending.Refused r) e = (refuses-leaves _ out place r, refuses-leaves _ out place r)
+  frame-leaves (sending.To q) e =
+      let four = request-exactly id .0 (q .0) .0 (sending-to t id settings q e) .1 in
+      let same : q .0 ≡ id .0 / 4 = omega arith in (
+        rw (← same) (if-leaves _ out place (leb (length payload) 65535)
+            (if-leaves _ out place (leb (length (frameBytes (q .0) payload)) path) (at-leaves (frameBytes (q .0) payload) out place) (refuses-leaves _ out place frameTooLong))
+            (refuses-leaves _ out place numberTooLarge)),
+        rw (← same) (if-leaves _ out place (leb n 65535)
+            (if-leaves _ out place (leb (length (encode (q .0)) + n) path) (at-leaves (encode (q .0)) out place) (refuses-leaves _ out place frameTooLong))
+            (refuses-leaves _ out place numberTooLarge)),
+      )
 
-cond-leaves : (out : List ℕ) (b : Bool) (x y : Writing) → Leaves out x → Leaves out y → Leaves out (cond b x y)
-cond-leaves out true x y a c = a
-cond-leaves out false x y a c = c
-
-wrote-leaves : (out after : List ℕ) (n : ℕ) → Leaves out (writing (Wrote n) after)
-unfolding Leaves
-wrote-leaves out after n why z e = absurd (let a = ap (λ (w : Writing). w .answer) e in let m : _≡_ {A = ℕ} 0 1 = cc in let k : ⊥ = omega arith in k)
-
-at-leaves : (bytes out : List ℕ) (place : ℕ) → Leaves out (writeAt bytes out place)
-unfolding writeAt
-at-leaves bytes out place = cond-leaves out (leb (place + length bytes) (length out)) _ _ (wrote-leaves out (sets out place bytes) (length bytes)) (refuses-leaves out _)
-
-capsule-leaves : (s : Sending) (payload out : List ℕ) (place : ℕ) → Leaves out (capsuleWritten s payload out place)
-unfolding capsuleWritten putCapsule
-capsule-leaves (sending.Refused r) payload out place = refuses-leaves out r
-capsule-leaves (sending.To q) payload out place = cond-leaves out (leb (length payload) 65535) _ _ (at-leaves _ out place) (refuses-leaves out _)
-
-frame-leaves : (s : Sending) (path : ℕ) (payload out : List ℕ) (place : ℕ) → Leaves out (frameWritten s path payload out place)
-unfolding frameWritten putFrame
-frame-leaves (sending.Refused r) path payload out place = refuses-leaves out r
-frame-leaves (sending.To q) path payload out place =
-    cond-leaves out (leb (length payload) 65535) _ _
-    (cond-leaves out (leb (length (frameBytes (q .0) payload)) path) _ _ (at-leaves (frameBytes (q .0) payload) out place) (refuses-leaves out frameTooLong))
-    (refuses-leaves out numberTooLarge)
-
-pub refused-write-leaves : RefusedWriteLeaves
-unfolding writeCapsule writeFrame Leaves
-refused-write-leaves t id payload out after place why = (
-  λ e. capsule-leaves (sendingOf t id true) payload out place why after e,
-  λ ours peers path e. frame-leaves (sendingOf t id (agreed ours peers)) path payload out place why after e,
-)
+pub writers-leave : WritersLeave
+unfolding writeCapsule writeFrame writeFrameHeader putCapsuleHeader
+writers-leave t id ours peers path n payload out place =
+    let frames = frame-leaves t id (agreed ours peers) path n payload out place (sendingOf t id (agreed ours peers)) refl in (
+      capsule (sendingOf t id true),
+      frames .0,
+      frames .1,
+      put-leaves payload out place,
+      if-leaves _ out place (leb n 65535) (at-leaves (capsuleHeader n) out place) (refuses-leaves _ out place numberTooLarge),
+    )
+  where
+    capsule : (s : Sending) → Leaves (capsuleBytes payload) out place (capsuleWritten s payload out place)
+    capsule (sending.Refused r) = unfold capsuleWritten in refuses-leaves _ out place r
+    capsule (sending.To q) = unfold capsuleWritten in put-leaves payload out place
 
 pub too-many-refused : TooManyRefused
 unfolding judgedOf writeCapsule writeFrame sendingOf capsuleWritten frameWritten isBad

@@ -1,11 +1,5 @@
 -- What is written is read back. Assumes nothing.
-use mathlib.Core.Path.{_≡_, ap}
-use Prim.Native.Nat.{ℕ, _-_, _^_, _≤_}
-use native.Mathlib.Omega.{arith}
-use mathlib.Core.List.{List}
-use lib.ListN.{length, drop, length-append}
-use lib.Seq.{drop-at}
-use borrow.Author.Tests.{le-leb, lt-ltb}
+use Rattle.walks.proofs.Words.{_≡_, ap, ℕ, _-_, _^_, _≤_, arith, List, length, drop, length-append, drop-at, le-leb, lt-ltb}
 use Rattle.wire.specs.declared.varint.Varint.the-variants.{Whole}
 use Rattle.wire.specs.Varint.{largest, readVarint, leastSize, encode}
 use Rattle.wire.specs.Units.{largestQuarter}

@@ -1,28 +1,29 @@
 -- What holds of judging and writing: each claim is a type here, and is proved in proofs/ under its name in lower case with dashes.
-use Prim.Native.Nat.{ℕ, _+_, _-_, _^_, _≤_, _<_}
+use Prim.Native.Nat.{ℕ, _+_, _/_, _^_, _≤_, _<_}
 use mathlib.Core.Path.{_≡_}
 use mathlib.Core.Bool.{true, false}
 use mathlib.Core.Option.{none, some}
 use mathlib.Core.List.{List, [], _∷_}
-use lib.ListN.{length, getD}
+use lib.ListN.{length, getD, drop}
 use lib.Seq.{sets}
 use Rattle.refusals.specs.declared.Refusal.{Refusal}
-use Rattle.refusals.specs.Numbers.{limitTooLarge, outputTooShort, numberTooLarge, badTable}
+use Rattle.refusals.specs.Numbers.{outputTooShort, badTable}
 use Rattle.wire.specs.declared.units.StreamId.{StreamId}
 use Rattle.wire.specs.declared.units.Quarter.{Quarter}
 use Rattle.wire.specs.declared.units.QuarterOf.the-variants.{Is}
 use Rattle.wire.specs.declared.varint.Varint.the-variants.{Incomplete, Whole}
 use Rattle.wire.specs.declared.varint.Written.the-variants as written
 use Rattle.wire.specs.Varint.{readVarint, encode}
-use Rattle.wire.specs.Units.{largestQuarter, quarterOf}
+use Rattle.wire.specs.Units.{quarterOf}
+use Rattle.wire.specs.Claims.{Leaves}
 use Rattle.wire.specs.Writing.{writing, refuses, writeAt}
-use Rattle.streams.specs.declared.table.Found.the-variants.{Nothing, At}
+use Rattle.streams.specs.declared.table.Found.the-variants.{At}
 use Rattle.streams.specs.Records.{blank, holds, receiveOpen, hasSemantics}
 use Rattle.streams.specs.Tables.{Table, isBad, find, entryOf}
 use Rattle.capsule.specs.Grammar.{inType, parts}
 use Rattle.datagram.specs.declared.judge.Judged.the-variants as judged
 use Rattle.datagram.specs.declared.write.Sending.the-variants as sending
-use Rattle.datagram.specs.Judging.{quarter, judgedRecord, judgedOf, ruleOf, quarterIn, placeIn, entryPlace, payloadOf}
+use Rattle.datagram.specs.Judging.{quarter, judgedOf, ruleOf, quarterIn, placeIn, entryPlace, payloadOf}
 use Rattle.datagram.specs.Sending.{capsuleHeader, capsuleBytes, frameBytes, agreed, sendingOf, putCapsule, putCapsuleHeader, writeCapsule, writeFrame, writeFrameHeader}
 
 -- a written capsule is, by the grammar, one complete DATAGRAM capsule with that payload, and nothing is left over
@@ -57,24 +58,6 @@ HeadersShortest =
     → readVarint s ≡ Whole n size
     → (length payload ≡ n → length (capsuleBytes payload) ≤ 1 + (size + length payload)) × (length (frameBytes n payload) ≤ size + length payload)
 
--- 15, 3, 6 and rules 1 to 4, each exactly on its condition: the premises exclude each other and leave nothing out. The rest is the record's
-abbrev pub JudgedDecided : Type 0
-JudgedDecided =
-    (t : Table) (streams limit : ℕ) (frame : List ℕ)
-    → (isBad t ≡ true → judgedOf t streams limit frame ≡ judged.Refused badTable)
-    × (isBad t ≡ false
-    → (65535 < limit → judgedOf t streams limit frame ≡ judged.Refused limitTooLarge)
-    × (limit ≤ 65535
-    → (2 ^ 60 < streams → judgedOf t streams limit frame ≡ judged.Refused numberTooLarge)
-    × (streams ≤ 2 ^ 60
-    → (readVarint frame ≡ Incomplete → judgedOf t streams limit frame ≡ judged.ShortFrame)
-    × ((q size : ℕ) → readVarint frame ≡ Whole q size
-    → (largestQuarter < q → judgedOf t streams limit frame ≡ judged.QuarterTooLarge (quarter q))
-    × (q ≤ largestQuarter → streams ≤ q → judgedOf t streams limit frame ≡ judged.BeyondLimit (quarter q))
-    × (q ≤ largestQuarter → q < streams → find q t ≡ Nothing → judgedOf t streams limit frame ≡ judged.NoStream (quarter q))
-    × ((i : ℕ) → q ≤ largestQuarter → q < streams → find q t ≡ At i
-    → judgedOf t streams limit frame ≡ judgedRecord (getD t i blank) (quarter q) i limit (length frame - size))))))
-
 -- where a quarter was read every rule answers it, and no other; where none was read none is answered
 abbrev pub QuarterRight : Type 0
 QuarterRight =
@@ -93,12 +76,22 @@ PlaceRight =
     × ((n : ℕ) → ruleOf (judgedOf t streams limit frame) ≡ some n → 5 ≤ n → placeIn (judgedOf t streams limit frame) ≡ entryPlace (entryOf q t)))
     × (readVarint frame ≡ Incomplete → placeIn (judgedOf t streams limit frame) ≡ none)
 
--- a refused writer changes no byte of the output
-abbrev pub RefusedWriteLeaves : Type 0
-RefusedWriteLeaves =
-    (t : Table) (id : StreamId) (payload out after : List ℕ) (place : ℕ) (why : Refusal)
-    → (writing (written.Refused why) after ≡ writeCapsule t id payload out place → after ≡ out)
-    × ((ours peers path : ℕ) → writing (written.Refused why) after ≡ writeFrame t id ours peers path payload out place → after ≡ out)
+-- the payload is what follows the quarter, in whatever form that came, where it is delivered; and empty for every other answer and every refusal
+abbrev pub PayloadExactly : Type 0
+PayloadExactly =
+    (t : Table) (streams limit : ℕ) (frame : List ℕ)
+    → ((p : Quarter) (place q size : ℕ) → judgedOf t streams limit frame ≡ judged.Delivered p place → readVarint frame ≡ Whole q size → payloadOf t streams limit frame ≡ drop size frame)
+    × (((p : Quarter) (place : ℕ) → judgedOf t streams limit frame ≡ judged.Delivered p place → ⊥) → payloadOf t streams limit frame ≡ [])
+
+-- what each writer leaves in the output, whatever it answers
+abbrev pub WritersLeave : Type 0
+WritersLeave =
+    (t : Table) (id : StreamId) (ours peers path n : ℕ) (payload out : List ℕ) (place : ℕ)
+    → Leaves (capsuleBytes payload) out place (writeCapsule t id payload out place)
+    × Leaves (frameBytes (id .0 / 4) payload) out place (writeFrame t id ours peers path payload out place)
+    × Leaves (encode (id .0 / 4)) out place (writeFrameHeader t id ours peers path n out place)
+    × Leaves (capsuleBytes payload) out place (putCapsule payload out place)
+    × Leaves (capsuleHeader n) out place (putCapsuleHeader n out place)
 
 -- more than 64 records, whatever they hold, are refused 15
 abbrev pub TooManyRefused : Type 0

@@ -1,11 +1,15 @@
 -- A received QUIC DATAGRAM payload (RFC 9297, section 2.1; document 01, "Stream table and QUIC DATAGRAM payloads").
-use Prim.Native.Nat.{ℕ, _-_, _^_}
+use Prim.Native.Nat.{ℕ, _-_, _^_, _≤_, _<_}
+use mathlib.Core.Path.{_≡_}
+use mathlib.Core.Logic.{_↔_}
 use mathlib.Core.Bool.{Bool, true, false, cond}
 use mathlib.Core.Option.{Option, none, some}
-use mathlib.Core.List.{List, []}
+use mathlib.Core.List.{List, [], _∷_}
 use lib.ListN.{length, drop}
 use lib.Dec.{leb, ltb}
 use Rattle.refusals.specs.Numbers.{limitTooLarge, numberTooLarge, badTable}
+use Rattle.refusals.specs.declared.Refusal.{Refusal}
+use Rattle.refusals.specs.First.{Order, First}
 use Rattle.wire.specs.declared.units.Quarter.{Quarter}
 use Rattle.wire.specs.declared.varint.Varint.{Varint}
 use Rattle.wire.specs.declared.varint.Varint.the-variants.{Incomplete, Whole}
@@ -16,6 +20,7 @@ use Rattle.streams.specs.declared.table.Entry.{Entry}
 use Rattle.streams.specs.declared.table.Entry.the-variants.{Absent, Present}
 use Rattle.streams.specs.Records.{receiveOpen, hasSemantics}
 use Rattle.streams.specs.Tables.{Table, isBad, entryOf}
+use Rattle.streams.specs.Words.{InTable, Any}
 use Rattle.datagram.specs.declared.judge.Judged.{Judged}
 use Rattle.datagram.specs.declared.judge.Judged.the-variants.{Refused, ShortFrame, QuarterTooLarge, BeyondLimit, NoStream, ReceiveClosed, NoSemantics, TooLong, Delivered}
 
@@ -88,6 +93,29 @@ placeIn (Delivered q place) = some place
 unfoldable pub entryPlace : Entry → Option ℕ
 entryPlace Absent = none
 entryPlace (Present place r) = some place
+
+-- ---- what judging promises: the answer, and its number by document 01's list of rules
+
+-- the frame starts with a quarter that is as P says; `rest` is the length of what follows it
+abbrev pub QuarterRead : List ℕ → (ℕ → ℕ → Type 0) → Type 0
+QuarterRead frame P = (q : ℕ) × (size : ℕ) × (readVarint frame ≡ Whole q size) × P q (length frame - size)
+
+-- "First match wins"
+abbrev pub rules : Table → ℕ → ℕ → List ℕ → Order
+rules t streams limit frame =
+    (1, readVarint frame ≡ Incomplete)
+    ∷ (2, QuarterRead frame (λ q rest. 2 ^ 60 - 1 < q))
+    ∷ (3, QuarterRead frame (λ q rest. streams ≤ q))
+    ∷ (4, QuarterRead frame (λ q rest. InTable t q Any → ⊥))
+    ∷ (5, QuarterRead frame (λ q rest. InTable t q (λ r. receiveOpen r ≡ false)))
+    ∷ (6, QuarterRead frame (λ q rest. InTable t q (λ r. hasSemantics r ≡ false)))
+    ∷ (7, QuarterRead frame (λ q rest. limit < rest))
+    ∷ (8, Unit {0})
+    ∷ []
+
+pub record Judges (t : Table) (streams limit : ℕ) (frame : List ℕ) (j : Judged) : Type 0 where
+  pub answer : j ≡ judgedOf t streams limit frame
+  pub rule : (n : ℕ) → (ruleOf j ≡ some n) ↔ ((why : Refusal) → j ≡ Refused why → ⊥) × First n (rules t streams limit frame)
 
 -- ---- the payload: what follows the quarter, where it is delivered
 

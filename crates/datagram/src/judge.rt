@@ -2,8 +2,9 @@
 ghost use mathlib.Core.Path.{_≡_};
 ghost use Prim.Native.Nat.{_-_};
 ghost use Rattle.wire.specs.Varint.{readVarint};
-ghost use Rattle.datagram.specs.Judging.{judgedRecord, judgedEntry, ifWithin, judgedOf, isDelivered, ifDelivered, afterQuarter, payloadOf};
+ghost use Rattle.datagram.specs.Judging.{judgedRecord, judgedEntry, ifWithin, Judges, isDelivered, ifDelivered, afterQuarter, payloadOf};
 ghost use Rattle.datagram.specs.Code.{askedIn, judgedBy, payloadBy};
+use capsule::opening::Opening;
 use refusals::Refusal;
 use streams::record::StreamRecord;
 use streams::table::Entry;
@@ -27,9 +28,6 @@ pub enum Judged {
 }
 
 impl Judged {
-    // The largest datagram limit.
-    pub const MAX_LIMIT: u64 = 65535;
-
     // The stream limit where none is known, which is also the largest.
     pub const UNKNOWN_STREAMS: u64 = 1152921504606846976;
 
@@ -64,7 +62,7 @@ impl Judged {
 
 // Judges a frame's payload by the stated stream limit and the datagram limit.
 pub fn judge(rows: &[StreamRecord], streams: u64, limit: u64, frame: &[u8]) -> Judged
-    ensures { λ j. ⌜ j ≡ judgedOf (now (rows .entry)) streams limit (now (frame .entry)) ⌝ }
+    ensures { λ j. ⌜ Judges (now (rows .entry)) streams limit (now (frame .entry)) j ⌝ }
 {
     judge_by(look_up(rows, asked(frame)), streams, limit, frame)
 }
@@ -92,7 +90,7 @@ fn judge_by(lookup: Lookup, streams: u64, limit: u64, frame: &[u8]) -> Judged
     match lookup {
         Lookup::BadTable => Judged::Refused(Refusal::BAD_TABLE),
         Lookup::Good(entry) => {
-            if limit > Judged::MAX_LIMIT {
+            if limit > Opening::MAX_LIMIT {
                 return Judged::Refused(Refusal::LIMIT_TOO_LARGE);
             }
             if streams > Judged::UNKNOWN_STREAMS {

@@ -10,6 +10,8 @@ ghost use Rattle.wire.specs.Units.{largestQuarter};
 ghost use Rattle.wire.specs.Writing.{writing};
 ghost use Rattle.datagram.specs.Sending.{putCapsule, putFrame, putCapsuleHeader, putFrameHeader, agreed, sendingRecord, sendingEntry, writeCapsule, writeFrame, writeFrameHeader};
 ghost use Rattle.datagram.specs.Code.{sendingBy, capsuleBy, frameBy, frameHeaderBy};
+use capsule::opening::Kind;
+use capsule::opening::Opening;
 use refusals::Refusal;
 use streams::record::StreamRecord;
 use streams::table::Entry;
@@ -29,8 +31,10 @@ pub enum Sending {
     To(Quarter),
 }
 
-// The longest payload that is sent.
-const MAX_PAYLOAD: usize = 65535;
+impl Sending {
+    // The value of SETTINGS_H3_DATAGRAM that allows frames (RFC 9297, section 2.1.1).
+    pub const FRAMES_ALLOWED: u64 = 1;
+}
 
 // Writes a DATAGRAM capsule for the stream: type 00, shortest length, payload.
 pub fn write_capsule(
@@ -100,7 +104,7 @@ pub fn write_datagram(payload: &[u8], out: &mut [u8], place: usize) -> Written
     ensures { λ r. ⌜ writing r (now (out .exit)) ≡ putCapsule (now (payload .entry)) (now (out .entry)) place ⌝ }
 {
     let n = payload.len();
-    if n > MAX_PAYLOAD {
+    if n > (Opening::MAX_LIMIT as usize) {
         return Written::Refused(Refusal::NUMBER_TOO_LARGE);
     }
     let need = 1 + least_size(n as u64) + n;
@@ -110,7 +114,7 @@ pub fn write_datagram(payload: &[u8], out: &mut [u8], place: usize) -> Written
     if out.len() - place < need {
         return Written::Refused(Refusal::OUTPUT_TOO_SHORT);
     }
-    out[place] = 0;
+    out[place] = Kind::DATAGRAM as u8;
     put(n as u64, payload, out, place + 1);
     Written::Wrote(need)
 }
@@ -119,7 +123,7 @@ pub fn write_datagram(payload: &[u8], out: &mut [u8], place: usize) -> Written
 pub fn write_datagram_header(length: u64, out: &mut [u8], place: usize) -> Written
     ensures { λ r. ⌜ writing r (now (out .exit)) ≡ putCapsuleHeader length (now (out .entry)) place ⌝ }
 {
-    if length > (MAX_PAYLOAD as u64) {
+    if length > Opening::MAX_LIMIT {
         return Written::Refused(Refusal::NUMBER_TOO_LARGE);
     }
     let need = 1 + least_size(length);
@@ -129,7 +133,7 @@ pub fn write_datagram_header(length: u64, out: &mut [u8], place: usize) -> Writt
     if out.len() - place < need {
         return Written::Refused(Refusal::OUTPUT_TOO_SHORT);
     }
-    out[place] = 0;
+    out[place] = Kind::DATAGRAM as u8;
     write_varint(length, out, place + 1);
     Written::Wrote(need)
 }
@@ -220,10 +224,10 @@ fn send_record(r: StreamRecord, quarter: Quarter, settings: bool) -> Sending
 fn are_agreed(ours: u64, peers: u64) -> bool
     ensures { λ r. ⌜ r ≡ agreed ours peers ⌝ }
 {
-    if ours != 1 {
+    if ours != Sending::FRAMES_ALLOWED {
         return false;
     }
-    peers == 1
+    peers == Sending::FRAMES_ALLOWED
 }
 
 fn put_frame(quarter: Quarter, path: u64, payload: &[u8], out: &mut [u8], place: usize) -> Written
@@ -231,7 +235,7 @@ fn put_frame(quarter: Quarter, path: u64, payload: &[u8], out: &mut [u8], place:
     ensures { λ r. ⌜ writing r (now (out .exit)) ≡ putFrame (quarter .0) path (now (payload .entry)) (now (out .entry)) place ⌝ }
 {
     let n = payload.len();
-    if n > MAX_PAYLOAD {
+    if n > (Opening::MAX_LIMIT as usize) {
         return Written::Refused(Refusal::NUMBER_TOO_LARGE);
     }
     let need = least_size(quarter.0) + n;
@@ -258,7 +262,7 @@ fn put_frame_header(
     requires { ⌜ quarter .0 ≤ largestQuarter ⌝ }
     ensures { λ r. ⌜ writing r (now (out .exit)) ≡ putFrameHeader (quarter .0) path length (now (out .entry)) place ⌝ }
 {
-    if length > (MAX_PAYLOAD as u64) {
+    if length > Opening::MAX_LIMIT {
         return Written::Refused(Refusal::NUMBER_TOO_LARGE);
     }
     let size = least_size(quarter.0);

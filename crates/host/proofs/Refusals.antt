@@ -1,7 +1,5 @@
 -- A refusal changes nothing behind any reference (specs/Claims.antt). Assumes nothing.
-use mathlib.Core.Path.{_≡_, sym, ap, _∙_}
-use mathlib.Core.Bool.{Bool, true, false, cond}
-use lib.Dec.{eqb}
+use Rattle.walks.proofs.Words.{_≡_, sym, ap, _∙_, Bool, true, false, cond, eqb}
 use Rattle.refusals.specs.declared.Refusal.{Refusal}
 use Rattle.refusals.specs.Numbers.{unmakeableState, finished}
 use Rattle.capsule.specs.declared.reader.Phase.{Phase}

@@ -1,15 +1,6 @@
--- Known and unknown numbers in `translated`.
-use mathlib.Core.Path.{_≡_, refl, ap, sym}
-use lib.Dec.{eqb}
-use borrow.Author.Tests.{eqb-true}
+-- Known and unknown numbers in `translated`. Assumes nothing.
+use Rattle.walks.proofs.Words.{_≡_, refl, ap, sym, eqb, eqb-true, Bool, true, false, cond, List, [], _∷_, Option, none, some, ℕ, zero, suc, _-_, _≤_, _<_, le-of-suc-le-suc, not-suc-le-zero, sub-one, length, getD, getElem?}
 use Rattle.http.specs.Claims.{MalformedAsTruncated}
-use mathlib.Core.Bool.{Bool, true, false, cond}
-use mathlib.Core.List.{List, [], _∷_}
-use mathlib.Core.Option.{Option, none, some}
-use Prim.Native.Nat.{ℕ, zero, suc, _-_, _≤_, _<_}
-use native.Mathlib.Nat.{le-of-suc-le-suc, not-suc-le-zero}
-use native.Mathlib.Numerals.{sub-one}
-use lib.ListN.{length, getD, getElem?}
 use Rattle.refusals.specs.Numbers.{unknownErrorOrVersion}
 use Rattle.http.specs.declared.translation.Action.{Action}
 use Rattle.http.specs.declared.translation.Translation.the-variants.{Refused, Becomes}

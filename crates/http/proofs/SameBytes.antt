@@ -1,37 +1,25 @@
--- `sameBytes` is equality of lists.
-use mathlib.Core.Path.{_≡_, refl, ap}
-use mathlib.Core.Bool.{Bool, true, false, _&&_}
-use mathlib.Core.List.{List, [], _∷_}
-use mathlib.Core.Logic.{_↔_}
-use Prim.Native.Nat.{ℕ}
-use native.Mathlib.Omega.{arith}
-use borrow.Author.Tests.{eqb-true, eq-eqb}
-use lib.Dec.{eqb}
-use lib.ListN.{length, getD}
-use Rattle.http.specs.Claims.{InUseExactly}
-use Rattle.http.specs.Field.{trimStart, trimEnd, sameBytes, inUse}
+-- `sameBytes` is equality of lists. Assumes nothing.
+use Rattle.walks.proofs.Words.{_≡_, refl, ap, Bool, true, false, _&&_, List, [], _∷_, _↔_, ℕ, arith, eqb-true, eq-eqb, eqb, length, getD}
+use Rattle.wire.proofs.Parts.{parted}
+use Rattle.capsule.proofs.Planning.{zero-one}
+use Rattle.http.specs.Field.{sameBytes}
 
 same : (s : List ℕ) → sameBytes s s ≡ true
 unfolding sameBytes
 same [] = refl
 same (b ∷ s) = rw (eq-eqb b b refl, same s)
 
-both : (p q : Bool) → p && q ≡ true → (p ≡ true) × (q ≡ true)
-both true q e = (refl, e)
-both false q e = absurd (let z : _≡_ {A = ℕ} 0 1 = cc in omega arith)
-
 equal : (s t : List ℕ) → sameBytes s t ≡ true → s ≡ t
 unfolding sameBytes
 equal [] [] e = refl
-equal [] (c ∷ t) e = absurd (let z : _≡_ {A = ℕ} 0 1 = cc in omega arith)
-equal (b ∷ s) [] e = absurd (let z : _≡_ {A = ℕ} 0 1 = cc in omega arith)
+equal [] (c ∷ t) e = zero-one (cc)
+equal (b ∷ s) [] e = zero-one (cc)
 equal (b ∷ s) (c ∷ t) e =
-    let h = both (eqb b c) (sameBytes s t) e in
+    let h = parted (eqb b c) (sameBytes s t) e in
     rw (eqb-true b c (h .0), equal s t (h .1))
 
-pub in-use-exactly : InUseExactly
-unfolding inUse
-in-use-exactly value = (equal _ _, λ e. rw e (same _))
+pub same-exactly : (s t : List ℕ) → (sameBytes s t ≡ true) ↔ (s ≡ t)
+same-exactly s t = (equal s t, λ e. rw e (same t))
 
 -- ---- two bytes
 

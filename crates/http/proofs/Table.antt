@@ -1,9 +1,5 @@
--- A table of rows that a rule makes, and its entry at a place.
-use mathlib.Core.Path.{_≡_, ap, sym, _∙_}
-use mathlib.Core.List.{List, [], _∷_}
-use Prim.Native.Nat.{ℕ, zero, suc, _+_, _<_}
-use native.Mathlib.Nat.{add-zero, zero-add, add-suc, suc-add, le-of-suc-le-suc, not-suc-le-zero}
-use lib.ListN.{getD}
+-- A table of rows that a rule makes, and its entry at a place. Assumes nothing.
+use Rattle.walks.proofs.Words.{_≡_, ap, sym, _∙_, List, [], _∷_, ℕ, zero, suc, _+_, _<_, add-zero, zero-add, add-suc, suc-add, le-of-suc-le-suc, not-suc-le-zero, getD}
 
 -- f i, f (i + 1), .., n of them
 abbrev pub listed : {A : Type 0} → (ℕ → A) → ℕ → ℕ → List A

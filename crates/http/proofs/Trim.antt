@@ -1,12 +1,5 @@
--- `trimStart` and `trimEnd`, byte by byte.
-use mathlib.Core.Path.{_≡_}
-use mathlib.Core.Bool.{true, false}
-use mathlib.Core.List.{List, [], _∷_, reverse, reverse-append, reverse-reverse}
-use Prim.Native.Nat.{ℕ, zero, suc, _+_, _-_, _≤_, _<_}
-use native.Mathlib.Nat.{not-suc-le-zero}
-use native.Mathlib.Numerals.{add-one, sub-one}
-use lib.ListN.{length, getD, take, drop, drop-of-length-le}
-use lib.Seq.{take-suc, drop-cons}
+-- `trimStart` and `trimEnd`, byte by byte. Assumes nothing.
+use Rattle.walks.proofs.Words.{_≡_, true, false, List, [], _∷_, reverse, reverse-append, reverse-reverse, ℕ, zero, suc, _+_, _-_, _≤_, _<_, not-suc-le-zero, add-one, sub-one, length, getD, take, drop, drop-of-length-le, take-suc, drop-cons}
 use Rattle.http.specs.Field.{isSpace, trimStart, trimEnd}
 
 -- ---- from the byte at i on

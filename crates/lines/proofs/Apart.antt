@@ -1,12 +1,5 @@
 -- No two lines are alike: each is read back. Assumes nothing.
-use mathlib.Core.Path.{_≡_, refl, sym, ap, _∙_}
-use Prim.Native.Nat.{ℕ, _≤_, _<_}
-use mathlib.Core.Bool.{cond}
-use mathlib.Core.List.{List, [], _∷_, _++_, append-assoc}
-use native.Mathlib.Omega.{arith}
-use borrow.Author.Tests.{lt-ltb, le-ltb}
-use lib.ListN.{drop, getD}
-use lib.Dec.{ltb, eqb}
+use Rattle.walks.proofs.Words.{_≡_, refl, sym, ap, _∙_, ℕ, _<_, cond, List, [], _∷_, _++_, append-assoc, arith, lt-ltb, le-ltb, drop, getD, ltb, eqb}
 use Rattle.capsule.specs.declared.opening.Report.the-variants.{Delivered, Dropped, Skipped, Passed, AddressDelivered, Malformed}
 use Rattle.capsule.specs.declared.reader.CloseAnswer.the-variants.{Refused, Clean, Truncated}
 use Rattle.lines.specs.Text.{text}

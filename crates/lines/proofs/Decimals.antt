@@ -1,13 +1,5 @@
 -- Decimal text. Assumes nothing.
-use mathlib.Core.Path.{_≡_, refl, sym, ap, _∙_}
-use Prim.Native.Nat.{ℕ, zero, suc, _+_, _-_, _*_, _/_, _%_, _^_, _≤_, _<_}
-use native.Mathlib.Nat.{div-one, div-div-eq-div-mul, pow-suc, pow-succ', one-le-pow}
-use native.Mathlib.Omega.{arith}
-use mathlib.Core.List.{List, [], _∷_, _++_, append-nil, append-assoc}
-use lib.ListN.{length, getD, length-append, List·getD-append}
-use lib.Arith.{mod-mul}
-use lib.Dec.{lit<}
-use borrow.Author.Tests.{lt-ltb, le-ltb}
+use Rattle.walks.proofs.Words.{_≡_, refl, sym, ap, _∙_, ℕ, zero, suc, _+_, _-_, _*_, _/_, _%_, _^_, _≤_, _<_, div-one, div-div-eq-div-mul, pow-suc, pow-succ', one-le-pow, arith, List, [], _∷_, _++_, append-nil, append-assoc, length, getD, length-append, List·getD-append, mod-mul, lit<, lt-ltb, le-ltb}
 use Rattle.wire.proofs.Reading.{split}
 use Rattle.lines.specs.Text.{text}
 use Rattle.lines.specs.Decimal.{lastDigit, digits, decimalBy, decimal, valueFrom, value}

@@ -1,13 +1,5 @@
 -- Text put in place. Assumes nothing.
-use mathlib.Core.Path.{_≡_, refl, sym, ap, _∙_}
-use Prim.Native.Nat.{ℕ, suc, _+_, _-_, _/_, _%_, _^_, _≤_, _<_}
-use native.Mathlib.Nat.{add-zero}
-use native.Mathlib.Numerals.{add-one}
-use native.Mathlib.Omega.{arith}
-use mathlib.Core.List.{List, [], _∷_, _++_}
-use lib.ListN.{length, getD, drop, set, length-append}
-use lib.Seq.{sets, length-sets, drop-cons, drop-length, set-comm}
-use borrow.Author.Tests.{le-leb, lt-leb}
+use Rattle.walks.proofs.Words.{_≡_, refl, sym, ap, _∙_, ℕ, suc, _+_, _-_, _/_, _%_, _^_, _≤_, _<_, add-zero, add-one, arith, List, [], _∷_, _++_, length, getD, drop, set, length-append, sets, length-sets, drop-cons, drop-length, set-comm, le-leb, lt-leb}
 use Rattle.wire.proofs.Numbers.{sets-append}
 use Rattle.lines.specs.declared.Line.the-variants.{Written, NoRoom}
 use Rattle.lines.specs.Text.{text}

@@ -1,11 +1,5 @@
 -- What was read, listed feeding by feeding. Assumes nothing.
-use mathlib.Core.Path.{_≡_, refl, sym, ap, _∙_}
-use Prim.Native.Nat.{ℕ, _+_, _-_, _≤_, _<_}
-use native.Mathlib.Omega.{arith}
-use mathlib.Core.Bool.{Bool, true, false}
-use mathlib.Core.List.{List, [], _++_}
-use lib.ListN.{length, take, drop, length-append, length-drop}
-use lib.Seq.{sets, length-sets, length-take-le}
+use Rattle.walks.proofs.Words.{_≡_, refl, sym, ap, _∙_, ℕ, _+_, _-_, _≤_, _<_, arith, Bool, true, false, List, [], _++_, length, take, drop, length-append, length-drop, sets, length-sets, length-take-le}
 use Rattle.refusals.specs.declared.Refusal.{Refusal}
 use Rattle.capsule.specs.declared.reader.Reader.{Reader}
 use Rattle.capsule.specs.declared.reader.Ended.{Ended}
@@ -83,14 +77,15 @@ module _ (r : Reader) (p : List ℕ) (b : Lent) (h : Ready r (length (b .gatheri
   ready-again k =
       let s = feedOf r p b .reader in
       let isS : takeOf r p b .reader ≡ s = ap (λ (f : Feeding). f .reader) taken in
-      let open-still : s .finished ≡ false = stays-open r p b (h .not-opted) (accepted-by r 0 (length (b .gathering)) (length (b .addresses)) (length (b .output)) (h .accepts 0) .0) in
+      let not-opted : opted (r .opening) ≡ false = rw (h .opened) (unfold opted optedBy in refl) in
+      let open-still : s .finished ≡ false = stays-open r p b not-opted (accepted-by r 0 (length (b .gathering)) (length (b .addresses)) (length (b .output)) (h .accepts 0) .0) in
       let same-opening : r .opening ≡ s .opening = ap (λ (x : Reader). x .opening) isS in
       let made = stays-makeable r p b k (accepted-makeable r 0 (length (b .gathering)) (length (b .addresses)) (length (b .output)) (h .accepts 0)) in
       record {
         accepts = λ piece.
             sym (by-lengths s piece (length (b .gathering)) (length (b .addresses)) (length (b .output)) made open-still Accepted
             (sym (rw (← same-opening) (accepted-by r piece (length (b .gathering)) (length (b .addresses)) (length (b .output)) (h .accepts piece) .1))));
-        not-opted = rw (← same-opening) (h .not-opted);
+        opened = rw (← same-opening) (h .opened);
       }
 
 -- the reader that was opened
@@ -102,7 +97,7 @@ opened-ready r gathering addresses output h e =
     rw (← isR) (record {
       accepts = λ piece.
           sym (by-lengths (fresh op) piece gathering addresses output (unfold isMakeable isMakeablePhase isPartial starts in refl) refl Accepted (endpoint-off op piece gathering addresses output h refl refl));
-      not-opted = unfold opted optedBy in refl;
+      opened = refl;
     })
 
 -- ---- the state between two steps

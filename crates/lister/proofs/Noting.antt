@@ -1,11 +1,5 @@
 -- A line behind those that wait. Assumes nothing.
-use mathlib.Core.Path.{_≡_, ap, _∙_}
-use Prim.Native.Nat.{ℕ, _+_, _^_, _≤_, _<_}
-use native.Mathlib.Omega.{arith}
-use mathlib.Core.List.{List}
-use lib.ListN.{length}
-use lib.Seq.{sets}
-use borrow.Author.Tests.{le-leb}
+use Rattle.walks.proofs.Words.{_≡_, ap, _∙_, ℕ, _+_, _^_, _≤_, _<_, arith, List, length, sets, le-leb}
 use Rattle.lines.specs.declared.Line.{Line}
 use Rattle.lines.specs.declared.Line.the-variants.{Written}
 use Rattle.lines.specs.Lines.{longest}

@@ -5,14 +5,14 @@ use mathlib.Core.Bool.{Bool, true, false}
 use mathlib.Core.List.{List, [], _++_}
 use lib.ListN.{length, take, drop}
 use lib.Seq.{sets}
+use Rattle.capsule.specs.declared.opening.Role.the-variants.{Endpoint}
 use Rattle.capsule.specs.declared.reader.Reader.{Reader}
 use Rattle.capsule.specs.declared.reader.Ended.{Ended}
 use Rattle.capsule.specs.declared.reader.Ended.the-variants.{Nothing, Capsule}
 use Rattle.capsule.specs.declared.reader.FeedAnswer.the-variants as fedAs
 use Rattle.capsule.specs.declared.reader.Verdict.the-variants.{Accepted}
-use Rattle.capsule.specs.Kinds.{opted}
 use Rattle.capsule.specs.Calls.{Lent}
-use Rattle.capsule.specs.Reader.{verdictOf, feeding, feedOf}
+use Rattle.capsule.specs.Reader.{opening, verdictOf, feeding, feedOf}
 use Rattle.lines.specs.declared.Line.{Line}
 use Rattle.lines.specs.declared.Line.the-variants.{Written, NoRoom}
 use Rattle.lines.specs.Lines.{reportLine, longest}
@@ -50,10 +50,10 @@ pub data Lists (input : List ℕ) (have : ℕ) (r₀ : Reader) (b₀ : Lent) (fr
       → feeding s (fedAs.Took consumed written e) d ≡ feedOf r (take (have - used) (drop used input)) b
       → Lists input have r₀ b₀ from s d (used + consumed) (text ++ lineIn e)
 
--- a reader that refuses no piece with buffers of these lengths, and that no capsule finishes
+-- "as an endpoint, limit 1,200, draft off", and without address capsules; a reader that refuses no piece with buffers of these lengths
 pub record Ready (r : Reader) (gathering addresses output : ℕ) : Type 0 where
+  pub opened : r .opening ≡ opening Endpoint 1200 false false
   pub accepts : (piece : ℕ) → verdictOf r piece gathering addresses output ≡ Accepted
-  pub not-opted : opted (r .opening) ≡ false
 
 -- the state has this reader, and is within its blocks
 pub record Read (l : Listing) (r : Reader) (input block : ℕ) : Type 0 where

@@ -248,10 +248,19 @@ fn list(fd: i32, name: &[u8]) {
     }
 }
 
-// Lists the file that the first argument names, or standard input.
+// Lists the file that the one argument names, or standard input where there is none. More arguments are refused.
 pub fn run() {
-    if os::arg_count() < 2 {
+    // the program's own name is counted
+    let count = os::arg_count();
+    if count < 2 {
         list(STDIN_FILENO, b"standard input");
+        return;
+    }
+    if count > 2 {
+        io::write_all(
+            STDERR_FILENO,
+            b"more than one argument: name one file, or none for standard input\n",
+        );
         return;
     }
     let mut path = io::buffer();

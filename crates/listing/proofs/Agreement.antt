@@ -1,17 +1,18 @@
--- The listing agrees with the reader's book. Assumes nothing.
-use mathlib.Core.Path.{_≡_, refl, ap, _∙_}
-use Prim.Native.Nat.{ℕ}
-use mathlib.Core.Bool.{false}
-use mathlib.Core.List.{List, [], _∷_}
-use lib.ListN.{length, length-map}
-use Rattle.capsule.specs.Grammar.{Parts, parts}
-use Rattle.capsule.specs.Calls.{Call, run, close, closed}
-use Rattle.capsule.specs.Book.{partsFor, Book, newBook, bookCall, bookClose, endOf, reported}
-use Rattle.capsule.specs.declared.opening.Opening.{Opening}
-use Rattle.capsule_laws.proofs.Orders.{whole-list}
-use Rattle.capsule_laws.proofs.Marks.{unmarked-grammar, same-opening}
-use Rattle.listing.specs.Listing.{endingOf}
-use Rattle.listing.specs.Claims.{asClosed, AgreesWithReader}
+-- The listing agrees with the reader, and its header bytes are all bytes but values and tail. Assumes nothing.
+use Rattle.walks.proofs.Words.{_≡_, refl, ap, _∙_, ℕ, _+_, arith, Bool, false, List, [], _∷_, length, length-append, length-drop}
+use Rattle.capsule.specs.declared.reader.Reader.{Reader}
+use Rattle.capsule.specs.Grammar.{plain, Capsule, Parts, parts}
+use Rattle.capsule.specs.Calls.{Reply, close, closed, run}
+use Rattle.capsule.specs.Book.{partsFor, Book, bookClose, endOf}
+use Rattle.capsule.specs.State.{readerOf, ofBook}
+use Rattle.capsule.specs.Reader.{opening, readerCall}
+use Rattle.capsule_laws.specs.Claims.{joined, AllRead, consumedIn}
+use Rattle.capsule_laws.proofs.Grammar.{split-right}
+use Rattle.capsule_laws.proofs.Lists.{Open, closed-same, open-fresh}
+use Rattle.capsule_laws.proofs.States.{made-calls}
+use Rattle.capsule_laws.proofs.Counts.{counted, unfinished-grammar}
+use Rattle.listing.specs.Listing.{headerBytes, endingOf}
+use Rattle.listing.specs.Claims.{valueBytes, HeadersExactly, asClosed, AgreesWithReader}
 use Rattle.listing.proofs.Rounds.{accepted}
 
 same-end : (tail : List ℕ) → endOf tail ≡ asClosed (endingOf tail)
@@ -19,17 +20,38 @@ unfolding endOf endingOf asClosed
 same-end [] = refl
 same-end (b ∷ r) = refl
 
-closes-so : (k : Book) → k .mark ≡ false → partsFor (k .opening) (k .stream) ≡ parts (k .stream) → bookCall k close .1 ≡ closed (asClosed (endingOf (parts (k .stream) .tail)))
-unfolding bookCall bookClose
-closes-so k e g = rw (e, g, same-end)
-
-opening-is : (op : Opening) (cs : List Call) → run bookCall (newBook op) cs .0 .opening ≡ op
-unfolding newBook
-opening-is op cs = same-opening (newBook op) cs
+-- a close of the state that a stream made
+closes-so : (k : Book) → Open k → k .mark ≡ false → partsFor (k .opening) (k .stream) ≡ parts (k .stream)
+    → readerCall (ofBook k) close .1 ≡ closed (asClosed (endingOf (parts (k .stream) .tail)))
+closes-so k o e g = ap (λ (x : Reader × Reply). x .1) (closed-same k o false e) ∙ (unfold bookClose in rw (g, same-end))
 
 pub agrees-with-reader : AgreesWithReader
-agrees-with-reader op cs e h =
-    let k = run bookCall (newBook op) cs .0 in
-    let g = unmarked-grammar op cs e in
-    let count = ap length (whole-list op cs .every-report) ∙ length-map (partsFor op (k .stream) .capsules) (reported op) ∙ ap (λ (p : Parts). length (p .capsules)) g in
-    record { ending = endingOf (parts (k .stream) .tail); lists = rw count (accepted (k .stream) h); closes = closes-so k e (ap (λ (o : Opening). partsFor o (k .stream)) (opening-is op cs) ∙ g) }
+agrees-with-reader role limit draft addresses r e cs h f m =
+    let op = opening role limit draft addresses in
+    let s = consumedIn cs (run readerCall r cs .1) in
+    let k : Book = record { opening = op; stream = s; mark = false } in
+    let made = made-calls role limit draft addresses r e cs h in
+    let o : Open k = record { accepted = open-fresh role limit draft addresses r e .0; bytes = made .bytes } in
+    let g : partsFor op s ≡ parts s = unfinished-grammar role limit draft addresses r e cs h f in
+    let count = counted role limit draft addresses r e cs h ∙ ap (λ (p : Parts). length (p .capsules)) g in
+    let state : run readerCall r cs .0 ≡ ofBook k = unfold ofBook in made .is ∙ ap (λ (b : Bool). readerOf op s b) f in
+    record {
+      ending = endingOf (parts s .tail);
+      lists = rw count (accepted s m);
+      closes = ap (λ (x : Reader). readerCall x close .1) state ∙ closes-so k o refl g;
+    }
+
+-- ---- header bytes
+
+all-counted : (cs : List Capsule) → AllRead plain cs → headerBytes cs + valueBytes cs ≡ length (joined cs)
+unfolding headerBytes valueBytes joined
+all-counted [] r = refl
+all-counted (c ∷ cs) r =
+    let value = ap length (r .0 .2) ∙ length-drop (r .0 .0) (c .bytes) in
+    let sized = r .0 .3 in
+    omega (arith, value, sized, all-counted cs (r .1), length-append (c .bytes) (joined cs))
+
+pub headers-exactly : HeadersExactly
+headers-exactly s =
+    let x = split-right plain s in
+    omega (arith, all-counted (parts s .capsules) (x .capsules-read), ap length (x .nothing-lost), length-append (joined (parts s .capsules)) (parts s .tail))

@@ -1,11 +1,5 @@
 -- One round of the cycle, over the grammar. Assumes nothing.
-use mathlib.Core.Path.{_≡_, sym}
-use Prim.Native.Nat.{ℕ, suc, _+_, _-_, _≤_, _<_}
-use native.Mathlib.Omega.{arith}
-use mathlib.Core.List.{List, [], _∷_}
-use lib.ListN.{length, take, drop, length-drop}
-use lib.Seq.{drop-drop, drop-length, length-take-le}
-use borrow.Author.Tests.{le-leb, lt-leb}
+use Rattle.walks.proofs.Words.{_≡_, sym, ℕ, suc, _+_, _-_, _≤_, _<_, arith, List, [], _∷_, length, take, drop, length-drop, drop-drop, drop-length, length-take-le, le-leb, lt-leb}
 use Rattle.refusals.specs.Numbers.{bufferTooLong}
 use Rattle.wire.specs.declared.varint.Varint.the-variants.{Incomplete, Whole}
 use Rattle.wire.specs.Varint.{readVarint}

@@ -1,11 +1,5 @@
 -- Bytes to come: the type and the length at the front of a tail stay whatever follows, so that only the number of the bytes that follow decides.
-use mathlib.Core.Path.{_≡_, refl, sym, ap, _∙_}
-use Prim.Native.Nat.{ℕ, _+_, _-_, _<_}
-use native.Mathlib.Omega.{arith}
-use mathlib.Core.Bool.{Bool, true, false, cond}
-use mathlib.Core.List.{List, _++_}
-use lib.ListN.{length, drop, length-append}
-use lib.Dec.{eqb}
+use Rattle.walks.proofs.Words.{_≡_, refl, sym, ap, _∙_, ℕ, _+_, _-_, _<_, arith, Bool, true, false, cond, List, _++_, length, drop, length-append, eqb}
 use Rattle.refusals.specs.Numbers.{unmakeableState}
 use Rattle.wire.specs.declared.varint.Varint.the-variants.{Whole}
 use Rattle.wire.specs.Varint.{readVarint}

@@ -1,12 +1,5 @@
 -- What a look says of the reader of a stream is what the grammar says of the stream: of each stage, by what stands at the tail's front.
-use mathlib.Core.Path.{_≡_, refl, _∙_}
-use Prim.Native.Nat.{ℕ, suc, _+_, _-_, _<_}
-use native.Mathlib.Omega.{arith}
-use mathlib.Core.Bool.{Bool, true, false, cond}
-use mathlib.Core.List.{List, [], _∷_}
-use lib.ListN.{length, drop, length-drop}
-use lib.Dec.{leb}
-use borrow.Author.Tests.{ne-eqb}
+use Rattle.walks.proofs.Words.{_≡_, refl, _∙_, ℕ, suc, _+_, _-_, _<_, arith, Bool, true, false, cond, List, [], _∷_, length, drop, length-drop, leb, ne-eqb}
 use Rattle.wire.specs.declared.varint.Varint.the-variants.{Whole}
 use Rattle.wire.specs.Varint.{readVarint}
 use Rattle.wire.specs.Partial.{partialOf}

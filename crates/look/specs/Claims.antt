@@ -1,7 +1,7 @@
 -- What holds of a look. Each claim is a type here, and is proved in proofs/ under the name given.
 use mathlib.Core.Path.{_≡_}
 use mathlib.Core.Logic.{_↔_}
-use Prim.Native.Nat.{ℕ, _-_, _<_}
+use Prim.Native.Nat.{ℕ, _-_, _≤_, _<_}
 use mathlib.Core.Bool.{Bool, true}
 use mathlib.Core.List.{List, [], _∷_, _++_}
 use lib.ListN.{length, drop}
@@ -15,7 +15,9 @@ use Rattle.capsule.specs.Book.{partsFor}
 use Rattle.capsule.specs.State.{readerOf}
 use Rattle.capsule.specs.Reader.{isOpening}
 use Rattle.capsule_laws.specs.Claims.{Makes}
+use Rattle.capsule_laws.specs.AddressClaims.{IsAddress, IsDatagram}
 use Rattle.look.specs.declared.Buffer.{Buffer}
+use Rattle.look.specs.declared.Buffer.the-variants as buffer
 use Rattle.look.specs.declared.Place.{Place}
 use Rattle.look.specs.declared.Place.the-variants.{Between, InType, InLength, InValue}
 use Rattle.look.specs.declared.Sight.{Sight}
@@ -47,6 +49,22 @@ LookOfStream =
     → isOpening op ≡ true
     → Bytes s
     → lookOf (readerOf op s mark) ≡ Seen (record { finished = mark; limit = op .limit; place = placeIn op (partsFor op s) })
+
+-- ---- the buffer of a value (proofs/States.antt)
+
+-- the gathering buffer for a DATAGRAM within the limit, the second one for an address value that is not too long, neither for any other
+pub record BufferOf (op : Opening) (t n : ℕ) : Type 0 where
+  pub gathering : (bufferOf op t n ≡ buffer.Gathering) ↔ IsDatagram op t × (n ≤ op .limit)
+  pub addresses : (bufferOf op t n ≡ buffer.Addresses) ↔ IsAddress op t × (n ≤ 1024)
+  pub neither : (bufferOf op t n ≡ buffer.Neither) ↔ (IsDatagram op t × (n ≤ op .limit) → ⊥) × (IsAddress op t × (n ≤ 1024) → ⊥)
+
+abbrev pub BufferExactly : Type 0
+BufferExactly = (op : Opening) (t n : ℕ) → BufferOf op t n
+
+-- all bytes that came are stored, where the value has a buffer
+abbrev pub StoredExactly : Type 0
+StoredExactly =
+    (came : ℕ) → (storedIn buffer.Neither came ≡ 0) × (storedIn buffer.Gathering came ≡ came) × (storedIn buffer.Addresses came ≡ came)
 
 -- ---- bytes to come (proofs/Completing.antt)
 

@@ -1,14 +1,5 @@
 -- Laws of a copy by blocks. Assumes nothing.
-use mathlib.Core.Path.{_≡_, sym, ap, _∙_, subst}
-use mathlib.Core.List.{List, _++_, append-assoc}
-use Prim.Native.Nat.{ℕ, _+_, _<_, _≤_, zero-le}
-use native.Mathlib.Nat.{add-assoc, zero-add}
-use native.Mathlib.Numerals.{add-one}
-use native.Mathlib.Omega.{arith}
-use lib.ListN.{length, getD, set, take, drop, length-drop}
-use lib.Seq.{paste, paste-suc, take-paste, drop-paste, take-add, drop-drop, length-take-le, sets, sets-eq}
-use mathlib.Core.Bool.{Bool, true, false}
-use borrow.Author.Tests.{le-leb, lt-leb}
+use Rattle.walks.proofs.Words.{_≡_, sym, ap, _∙_, subst, List, _++_, append-assoc, ℕ, _+_, _<_, _≤_, zero-le, add-assoc, zero-add, add-one, arith, length, getD, set, take, drop, length-drop, paste, paste-suc, take-paste, drop-paste, take-add, drop-drop, length-take-le, sets, sets-eq, Bool, true, false, le-leb, lt-leb}
 use Rattle.spans.specs.Copy.{Copying, copying, bothHave, copy}
 
 -- a block of k elements copied behind i that were copied

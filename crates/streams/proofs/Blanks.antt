@@ -1,10 +1,5 @@
 -- Blanks at the end of the first n records, passed over from the last: what is known when those from i on are blanks. Assumes nothing.
-use mathlib.Core.Path.{_≡_, sym, subst, _∙_}
-use Prim.Native.Nat.{ℕ, suc, _-_, _≤_, _<_}
-use native.Mathlib.Omega.{arith}
-use mathlib.Core.Bool.{true}
-use lib.ListN.{length, getD, take, drop, drop-of-length-le}
-use lib.Seq.{length-take-le, drop-cons, getD-take}
+use Rattle.walks.proofs.Words.{_≡_, sym, subst, _∙_, ℕ, suc, _-_, _≤_, _<_, arith, true, length, getD, take, drop, drop-of-length-le, length-take-le, drop-cons, getD-take}
 use Rattle.streams.specs.Records.{blank, isBlank}
 use Rattle.streams.specs.Tables.{Table}
 use Rattle.streams.specs.Code.{AllBlank}

@@ -1,13 +1,6 @@
 -- Buckets of quarters, marked from the first record to the last. Assumes nothing.
 use Prim.{Unit}
-use mathlib.Core.Path.{_≡_, refl, subst, _∙_}
-use Prim.Native.Nat.{ℕ, _%_, _<_}
-use mathlib.Core.Bool.{Bool, true, false, _&&_}
-use mathlib.Core.List.{List, [], _∷_, _++_}
-use lib.Dec.{eqb}
-use lib.ListN.{length, getD, set}
-use lib.Seq.{getD-set-same, getD-set-other}
-use borrow.Author.Tests.{eqb-true, eqb-false}
+use Rattle.walks.proofs.Words.{_≡_, refl, subst, _∙_, ℕ, _%_, _<_, Bool, true, false, _&&_, List, [], _∷_, _++_, eqb, length, getD, set, getD-set-same, getD-set-other, eqb-true, eqb-false}
 use Rattle.streams.specs.declared.record.StreamRecord.{StreamRecord}
 use Rattle.streams.specs.Records.{isUsed, holds}
 use Rattle.streams.specs.Tables.{Table, standsIn}

@@ -1,12 +1,5 @@
 -- A table after a side was closed, and what both operations leave. Assumes nothing.
-use mathlib.Core.Path.{_≡_, refl, sym, ap, _∙_}
-use Prim.Native.Nat.{ℕ, _<_}
-use native.Mathlib.Omega.{arith}
-use mathlib.Core.Bool.{Bool, true, false, not, _||_, true≢false}
-use lib.Dec.{ltb}
-use lib.ListN.{length, getD, set, length-set}
-use lib.Seq.{getD-set-same, getD-set-other, set-getD}
-use borrow.Author.Tests.{lt-ltb}
+use Rattle.walks.proofs.Words.{_≡_, refl, sym, ap, _∙_, ℕ, _<_, arith, Bool, true, false, not, _||_, true≢false, ltb, length, getD, set, length-set, getD-set-same, getD-set-other, set-getD, lt-ltb}
 use Rattle.wire.specs.declared.units.StreamId.{StreamId}
 use Rattle.wire.specs.declared.units.Quarter.{Quarter}
 use Rattle.wire.specs.declared.units.QuarterOf.the-variants.{Is}
@@ -18,8 +11,8 @@ use Rattle.streams.specs.declared.table.Found.the-variants.{Nothing}
 use Rattle.streams.specs.declared.table.Closing.{Closing}
 use Rattle.streams.specs.declared.table.Closing.the-variants.{Refused, Closed}
 use Rattle.streams.specs.Records.{blank, flag, isUsed, bothClosed, isBlank, isBadRecord, holds, withClosed, closedSide}
-use Rattle.streams.specs.Tables.{Table, anyBad, standsTwice, isBad, find, entryAt, lowestFree, openAt, openEntry, openingOf, closeEntry, closingOf, tableOpened, tableClosed}
-use Rattle.streams.specs.Claims.{ClosingDecided, ClosedTwice, ClosedAgain, FreedFoundAgain, FullThenFreed, StaysGood, OthersUntouched, TooManyRefused, NoneIsGood}
+use Rattle.streams.specs.Tables.{Table, anyBad, standsTwice, isBad, find, entryAt, lowestFree, openAt, openEntry, openingOf, closingOf, tableOpened, tableClosed}
+use Rattle.streams.specs.Claims.{ClosedRight, ClosedTwice, ClosedAgain, ClosedStored, FreedFoundAgain, FullThenFreed, StaysGood, OthersUntouched, TooManyRefused, NoneIsGood}
 use Rattle.streams.proofs.Flags.{or-none, used-bad, closed-exactly, closed-already}
 use Rattle.streams.proofs.Places.{First, isFree, find-first, lowest-first, first-at, none-is, find-nothing}
 use Rattle.streams.proofs.Decisions.{opening-is, opened-so, Closes, closes, closed-so}
@@ -77,13 +70,6 @@ twice-closed side r e =
     rw (kept-open side r e) (kept-open side (withClosed side r) (rw t e) ∙ t)
 
 -- ---- the table
-
-pub closing-decided : ClosingDecided
-unfolding closingOf closeEntry entryAt
-closing-decided t id side = (
-  λ b. rw b,
-  λ b. (λ n. rw (b, n), λ q r. (λ f. rw (b, r, f), λ i f. rw (b, r, f))),
-)
 
 module _ (t : Table) (id : StreamId) (side : Side) (i : ℕ) (freed : Bool) (c : Closes t id side i freed) where
   abbrev old : StreamRecord
@@ -151,6 +137,20 @@ same t id side i c =
 pub closed-twice : ClosedTwice
 unfolding tableClosed
 closed-twice = (twice-closed, λ t id side i e. same t id side i (closes t id side i false e))
+
+pub closed-right : ClosedRight
+closed-right t id side q i freed e is =
+    let c = closes t id side i freed e in
+    let s = stood t id side i freed c in
+    let same : c .quarter ≡ q = cc (c .is) in
+    (s .within, rw same at (s .here), sym (c .frees))
+
+pub closed-stored : ClosedStored
+unfolding tableClosed closedSide
+closed-stored t id side i freed e =
+    let c = closes t id side i freed e in
+    let same-place = getD-set-same t i (closedSide side (getD t i blank)) blank (stood t id side i freed c .within) in
+    (λ f. same-place ∙ rw (c .frees ∙ f), λ f. same-place ∙ rw (c .frees ∙ f))
 
 pub closed-again : ClosedAgain
 unfolding tableClosed

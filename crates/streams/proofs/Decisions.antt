@@ -1,10 +1,5 @@
 -- What opening and closing come to, and from what; what the code stores is the table afterwards. Assumes nothing.
-use mathlib.Core.Path.{_≡_, refl, sym, ap, _∙_}
-use Prim.Native.Nat.{ℕ}
-use native.Mathlib.Omega.{arith}
-use mathlib.Core.Bool.{Bool, true, false, cond}
-use lib.ListN.{getD, set}
-use lib.Seq.{set-out}
+use Rattle.walks.proofs.Words.{_≡_, refl, sym, ap, _∙_, ℕ, arith, Bool, true, false, cond, getD, set, set-out}
 use Rattle.refusals.specs.Numbers.{notARequestStream, badTable}
 use Rattle.wire.specs.declared.units.StreamId.{StreamId}
 use Rattle.wire.specs.declared.units.Quarter.{Quarter}

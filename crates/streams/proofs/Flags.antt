@@ -1,16 +1,11 @@
 -- The flags of a record, by what its number leaves at a division by each; a flag cleared, by the difference. Assumes nothing.
-use mathlib.Core.Path.{_≡_, refl, sym, ap, _∙_}
-use Prim.Native.Nat.{ℕ, _+_, _-_, _/_, _%_, _≤_, _<_}
-use native.Mathlib.Omega.{arith}
-use mathlib.Core.Bool.{Bool, true, false, cond, not, _&&_, _||_, or-false, true≢false, false≢true}
-use lib.Dec.{eqb, ltb}
-use borrow.Author.Tests.{eqb-true, ne-eqb, lt-ltb, le-ltb, ltb-false, not-false}
+use Rattle.walks.proofs.Words.{_≡_, refl, sym, ap, _∙_, ℕ, _+_, _-_, _/_, _%_, _≤_, _<_, arith, Bool, true, false, cond, not, _&&_, _||_, or-false, true≢false, false≢true, eqb, ltb, eqb-true, eq-eqb, ne-eqb, lt-ltb, le-ltb, ltb-false, not-false}
 use Rattle.wire.specs.Units.{largestQuarter}
 use Rattle.streams.specs.declared.record.StreamRecord.{StreamRecord}
 use Rattle.streams.specs.declared.record.Side.{Side}
 use Rattle.streams.specs.declared.record.Side.the-variants.{Receive, Send}
 use Rattle.streams.specs.Records.{flag, blank, isUsed, receiveOpen, sendOpen, hasSemantics, bothClosed, isBlank, isBadRecord, without, withClosed}
-use Rattle.streams.specs.Claims.{FreeGood, UsedGood, ClosedExactly, ClosedAlready}
+use Rattle.streams.specs.Claims.{FlagsExactly, BlankExactly, FreeGood, UsedGood, ClosedExactly, ClosedAlready}
 
 pub or-none : (a b : Bool) → (a || b) ≡ false → (a ≡ false) × (b ≡ false)
 or-none false b e = (refl, e)
@@ -51,6 +46,14 @@ module _ (r : StreamRecord) where
   pub blank-is : isBlank r ≡ true → r ≡ blank
   unfolding isBlank
   blank-is e = let z = and-both _ _ e in λ i. record { quarter = record { 0 = eqb-true q 0 (z .0) i }; flags = eqb-true (r .flags) 0 (z .1) i }
+
+pub flags-exactly : FlagsExactly
+unfolding flag
+flags-exactly r = ((eqb-true _ 1, eq-eqb _ 1), (eqb-true _ 1, eq-eqb _ 1), (eqb-true _ 1, eq-eqb _ 1), (eqb-true _ 1, eq-eqb _ 1))
+
+pub blank-exactly : BlankExactly
+unfolding isBlank
+blank-exactly = (refl, refl, λ r. (blank-is r, λ e. rw e))
 
 pub free-good : FreeGood
 unfolding isBadRecord isBlank flag

@@ -1,20 +1,14 @@
 -- A good table, place by place, and one record of it stored anew. Assumes nothing.
-use mathlib.Core.Path.{_≡_, refl, sym, ap, _∙_}
-use Prim.Native.Nat.{ℕ, zero, suc, _≤_, _<_}
-use native.Mathlib.Omega.{arith}
-use mathlib.Core.Bool.{Bool, true, false, _&&_, _||_, true≢false, false≢true}
-use mathlib.Core.List.{[], _∷_}
-use lib.Dec.{eqb, ltb}
-use lib.ListN.{length, getD, set, length-set}
-use lib.Seq.{getD-set-same, getD-set-other}
-use borrow.Author.Tests.{eq-eqb, eqb-true, eqb-false, ltb-false, le-ltb}
+use Rattle.walks.proofs.Words.{_≡_, refl, sym, ap, _∙_, ℕ, zero, suc, _≤_, _<_, arith, Bool, true, false, _&&_, _||_, true≢false, false≢true, [], _∷_, eqb, ltb, length, getD, set, length-set, getD-set-same, getD-set-other, eq-eqb, eqb-true, eqb-false, ltb-false, le-ltb}
+use Rattle.wire.specs.Units.{largestQuarter}
 use Rattle.streams.specs.declared.record.StreamRecord.{StreamRecord}
 use Rattle.streams.specs.declared.table.Found.{Found}
 use Rattle.streams.specs.declared.table.Found.the-variants.{Nothing, At}
 use Rattle.streams.specs.Records.{blank, flag, isUsed, isBlank, isBadRecord, holds}
 use Rattle.streams.specs.Tables.{Table, anyBad, standsIn, standsTwice, isBad}
+use Rattle.streams.specs.Words.{GoodTable}
 use Rattle.streams.specs.Claims.{HoldsExactly, GoodExactly, FoundOnce}
-use Rattle.streams.proofs.Flags.{or-none, not-so}
+use Rattle.streams.proofs.Flags.{or-none, not-so, free-good, used-good}
 use Rattle.streams.proofs.Places.{first, find-first, stands-first, any-first, isAt, first-is, none-is, first-none}
 
 -- as `GoodTable`, by quarters
@@ -118,20 +112,27 @@ of-good t g =
     rw (le-ltb 64 (length t) (g .short), a, of-once t (g .once))
 
 pub good-exactly : GoodExactly
+unfolding largestQuarter
 good-exactly t = (
   λ e.
       let g = good-of t e in
       record {
         short = g .short;
-        each = g .each;
+        quarters = λ k u. used-good (getD t k blank) u .0 (g .each k) .0;
         once = λ j k a b s. g .once (getD t k blank .quarter .0) j k (holds-so _ (getD t j blank) a s) (holds-so _ (getD t k blank) b refl);
+        sides = λ k u. used-good (getD t k blank) u .0 (g .each k) .1;
+        free = λ k f. free-good (getD t k blank) f .0 (g .each k);
       },
   λ g. of-good t (record {
     short = g .short;
-    each = g .each;
+    each = λ k. each g k (isUsed (getD t k blank)) refl;
     once = λ q j k a b. let x = held q _ a in let y = held q _ b in g .once j k (x .0) (y .0) (x .1 ∙ sym (y .1));
   }),
 )
+  where
+    each : GoodTable t → (k : ℕ) (u : Bool) → isUsed (getD t k blank) ≡ u → isBadRecord (getD t k blank) ≡ false
+    each g k true x = used-good (getD t k blank) x .1 (g .quarters k x) (g .sides k x)
+    each g k false x = free-good (getD t k blank) x .1 (g .free k x)
 
 pub found-once : FoundOnce
 found-once q i t e h =

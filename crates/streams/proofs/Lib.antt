@@ -1,6 +1,7 @@
 pub mod Flags
 pub mod Places
 pub mod Goodness
+pub mod Tabled
 pub mod Decisions
 pub mod Openings
 pub mod Closings

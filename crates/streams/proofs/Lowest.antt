@@ -1,10 +1,5 @@
 -- The lowest free place, sought from the first record on: what is known when the records below i are used. Assumes nothing.
-use mathlib.Core.Path.{_≡_, refl, sym, ap, _∙_}
-use Prim.Native.Nat.{ℕ, suc, _+_, _<_, _≤_}
-use native.Mathlib.Omega.{arith}
-use mathlib.Core.Bool.{Bool, true, false, cond}
-use lib.ListN.{length, getD, drop}
-use lib.Seq.{drop-cons, drop-length}
+use Rattle.walks.proofs.Words.{_≡_, refl, sym, ap, _∙_, ℕ, suc, _+_, _<_, _≤_, arith, Bool, true, false, cond, length, getD, drop, drop-cons, drop-length}
 use Rattle.streams.specs.declared.table.Found.{Found}
 use Rattle.streams.specs.declared.table.Found.the-variants.{Nothing, At}
 use Rattle.streams.specs.Records.{blank, isUsed}

@@ -1,24 +1,20 @@
 -- A table after a stream was opened. Assumes nothing.
-use mathlib.Core.Path.{_≡_, refl, sym, ap, _∙_}
-use Prim.Native.Nat.{ℕ, _<_}
-use mathlib.Core.Bool.{Bool, true, false, not, _||_, true≢false}
-use lib.ListN.{length, getD, set, length-set}
-use lib.Seq.{getD-set-other}
-use borrow.Author.Tests.{le-ltb, not-true, not-false}
+use Rattle.walks.proofs.Words.{_≡_, refl, sym, ap, _∙_, ℕ, Bool, true, false, not, _||_, true≢false, length, getD, set, length-set, getD-set-other, getD-set-same, le-ltb, not-true, not-false}
 use Rattle.wire.specs.declared.units.StreamId.{StreamId}
 use Rattle.wire.specs.declared.units.Quarter.{Quarter}
 use Rattle.wire.specs.declared.units.QuarterOf.{QuarterOf}
 use Rattle.wire.specs.declared.units.QuarterOf.the-variants.{NotRequestStream, Is}
 use Rattle.wire.specs.Units.{largestQuarter, quarterOf}
 use Rattle.wire.proofs.Identifiers.{quarter-bounded}
-use Rattle.streams.specs.declared.table.Found.the-variants.{Nothing, At}
+use Rattle.streams.specs.declared.table.Found.the-variants.{Nothing}
 use Rattle.streams.specs.declared.table.Opening.{Opening}
 use Rattle.streams.specs.declared.table.Opening.the-variants.{Refused, Opened}
 use Rattle.streams.specs.Records.{blank, flag, isUsed, opened, bothClosed, isBadRecord, holds}
-use Rattle.streams.specs.Tables.{Table, isBad, entryAt, lowestFree, openAt, openEntry, openingOf, tableOpened}
-use Rattle.streams.specs.Claims.{UsedBelow, OpenedExactly, OpeningDecided, LowestTaken, OpenedFound}
+use Rattle.streams.specs.Tables.{Table, isBad, lowestFree, openingOf, tableOpened}
+use Rattle.streams.specs.Words.{UsedBelow}
+use Rattle.streams.specs.Claims.{OpenedExactly, LowestTaken, OpenedFound, OpenedStored}
 use Rattle.streams.proofs.Flags.{used-bad}
-use Rattle.streams.proofs.Places.{First, isFree, find-first, lowest-first, first-at, first-is, none-is, find-nothing}
+use Rattle.streams.proofs.Places.{First, isFree, find-first, lowest-first, first-at, none-is, none-below, find-nothing}
 use Rattle.streams.proofs.Decisions.{ifRequest, opened-table, Opens, opens}
 use Rattle.streams.proofs.Goodness.{good-of, of-good, held, holds-so, set-first, set-good}
 
@@ -62,21 +58,8 @@ opened-good id q semantics e =
 pub lowest-none : (t : Table) → UsedBelow t (length t) → lowestFree t ≡ Nothing
 lowest-none t u = lowest-first t ∙ none-is isFree t (λ k l. ap not (u k l))
 
-lowest-at : (t : Table) (i : ℕ) → isUsed (getD t i blank) ≡ false → i < length t → UsedBelow t i → lowestFree t ≡ At i
-lowest-at t i f l u = lowest-first t ∙ first-is isFree t i (record { within = l; here = ap not f; below = λ k m. ap not (u k m) })
-
-pub opening-decided : OpeningDecided
-unfolding openingOf openEntry openAt entryAt
-opening-decided t id = (
-  λ b. rw b,
-  λ b. (
-    λ n. rw (b, n),
-    λ q r. (
-      λ i f. rw (b, r, f),
-      λ f. (λ u. rw (b, r, f, lowest-none t u), λ i v l u. rw (b, r, f, lowest-at t i v l u)),
-    ),
-  ),
-)
+pub none-lowest : (t : Table) → lowestFree t ≡ Nothing → UsedBelow t (length t)
+none-lowest t e k l = not-false (isUsed (getD t k blank)) (none-below isFree t (sym (lowest-first t) ∙ e) k l)
 
 -- the place that was taken is the first free one
 taken : (t : Table) (id : StreamId) (i : ℕ) → Opens t id i → First isFree t i
@@ -94,6 +77,10 @@ opened-found t id semantics q i e is =
     let r = opened q semantics in
     rw (opened-table t id semantics q i is, find-first) (set-first t i r (taken t id i o .within) (holds (q .0)) (holds-so (q .0) r (opened-used q semantics) refl)
     (λ k m. find-nothing (q .0) t (rw s at (o .absent)) k))
+
+pub opened-stored : OpenedStored
+opened-stored t id semantics q i e is =
+    rw (opened-table t id semantics q i is) (getD-set-same t i (opened q semantics) blank (taken t id i (opens t id i e) .within))
 
 pub opening-good : (t : Table) (id : StreamId) (semantics : Bool) → isBad t ≡ false → isBad (tableOpened t id semantics (openingOf t id)) ≡ false
 unfolding tableOpened

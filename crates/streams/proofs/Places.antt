@@ -1,10 +1,5 @@
 -- The first record that has a property: a search of a table is one, and so is a test of all its records. Assumes nothing.
-use mathlib.Core.Path.{_≡_, refl, sym, ap, subst, _∙_}
-use Prim.Native.Nat.{ℕ, zero, suc, _<_}
-use native.Mathlib.Omega.{arith}
-use mathlib.Core.Bool.{Bool, true, false, cond, not, _||_}
-use mathlib.Core.List.{[], _∷_}
-use lib.ListN.{length, getD}
+use Rattle.walks.proofs.Words.{_≡_, refl, sym, ap, subst, _∙_, ℕ, zero, suc, _<_, arith, Bool, true, false, cond, not, _||_, [], _∷_, length, getD}
 use Rattle.streams.specs.declared.record.StreamRecord.{StreamRecord}
 use Rattle.streams.specs.declared.table.Found.{Found}
 use Rattle.streams.specs.declared.table.Found.the-variants.{Nothing, At}
@@ -103,19 +98,25 @@ module _ (p : StreamRecord → Bool) where
   none-is [] h = refl
   none-is (r ∷ rs) h = rw (h 0 (omega arith), none-is rs (λ k l. h (suc k) (omega arith)))
 
-  none-cons : (r : StreamRecord) (rs : Table) → (first p rs ≡ Nothing → (k : ℕ) → p (getD rs k blank) ≡ false)
-      → (b : Bool) → p r ≡ b → (f : Found) → first p rs ≡ f → cond b (At 0) (next f) ≡ Nothing → (k : ℕ) → p (getD (r ∷ rs) k blank) ≡ false
+  -- at the places of which K says so
+  none-cons : (K : ℕ → Type 0) (r : StreamRecord) (rs : Table) → (first p rs ≡ Nothing → (k : ℕ) → K (suc k) → p (getD rs k blank) ≡ false)
+      → (b : Bool) → p r ≡ b → (f : Found) → first p rs ≡ f → cond b (At 0) (next f) ≡ Nothing → (k : ℕ) → K k → p (getD (r ∷ rs) k blank) ≡ false
   unfolding next
-  none-cons r rs more true h f g e k = no-place (sym e)
-  none-cons r rs more false h (At j) g e k = no-place (sym e)
-  none-cons r rs more false h Nothing g e zero = h
-  none-cons r rs more false h Nothing g e (suc k) = more g k
+  none-cons K r rs more true h f g e k l = no-place (sym e)
+  none-cons K r rs more false h (At j) g e k l = no-place (sym e)
+  none-cons K r rs more false h Nothing g e zero l = h
+  none-cons K r rs more false h Nothing g e (suc k) l = more g k l
 
   -- past the end stands the blank
   pub first-none : p blank ≡ false → (t : Table) → first p t ≡ Nothing → (k : ℕ) → p (getD t k blank) ≡ false
   unfolding first
   first-none h [] e k = h
-  first-none h (r ∷ rs) e k = none-cons r rs (first-none h rs) (p r) refl (first p rs) refl e k
+  first-none h (r ∷ rs) e k = none-cons (λ _. Unit {0}) r rs (λ g j _. first-none h rs g j) (p r) refl (first p rs) refl e k tt
+
+  pub none-below : (t : Table) → first p t ≡ Nothing → None t (length t)
+  unfolding first
+  none-below [] e k l = absurd (let n : ⊥ = omega arith in n)
+  none-below (r ∷ rs) e k l = none-cons (λ j. j < length (r ∷ rs)) r rs (λ g j m. none-below rs g j (omega arith)) (p r) refl (first p rs) refl e k l
 
 pub find-right : FindRight
 find-right q i t e = let f = first-at (holds q) t i (sym (find-first q t) ∙ e) in (f .here, f .within)

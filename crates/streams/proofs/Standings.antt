@@ -1,9 +1,5 @@
 -- Where a stream stands: the place that is found, from the answer and to it (`find-right`, `found-once`). Assumes nothing.
-use mathlib.Core.Path.{_≡_, refl, sym, ap, _∙_}
-use Prim.Native.Nat.{ℕ, _/_, _<_}
-use native.Mathlib.Omega.{arith}
-use mathlib.Core.Bool.{Bool, true, false, cond}
-use lib.ListN.{length, getD}
+use Rattle.walks.proofs.Words.{_≡_, refl, sym, ap, _∙_, ℕ, _/_, _<_, arith, Bool, true, false, cond, length, getD}
 use Rattle.refusals.specs.Numbers.{badTable}
 use Rattle.wire.specs.declared.units.StreamId.{StreamId}
 use Rattle.wire.specs.declared.units.QuarterOf.the-variants.{NotRequestStream, Is}
@@ -12,8 +8,8 @@ use Rattle.streams.specs.declared.table.Found.{Found}
 use Rattle.streams.specs.declared.table.Found.the-variants as found
 use Rattle.streams.specs.declared.table.Standing.the-variants.{Refused, At}
 use Rattle.streams.specs.Records.{blank, holds}
-use Rattle.streams.specs.Tables.{Table, isBad, find, entryAt, entryOf, standEntry, standingOf}
-use Rattle.streams.specs.Claims.{StandsExactly, StandingDecided}
+use Rattle.streams.specs.Tables.{Table, isBad, find, entryAt, entryOf, standEntry}
+use Rattle.streams.specs.Claims.{StandsExactly}
 use Rattle.streams.proofs.Places.{find-right}
 use Rattle.streams.proofs.Decisions.{standIf, standing-is}
 use Rattle.streams.proofs.Goodness.{found-once}
@@ -43,11 +39,4 @@ unfolding standEntry entryAt quarterOf
 stands-exactly t id i = (
   λ e. from t id i (isBad t) refl (isRequest (id .0)) refl (sym (standing-is t id (quarterOf id) refl) ∙ e),
   λ b h s. standing-is t id (Is (record { 0 = id .0 / 4 })) (rw h) ∙ rw (b, found-once (id .0 / 4) i t b s),
-)
-
-pub standing-decided : StandingDecided
-unfolding standingOf standEntry entryAt
-standing-decided t id = (
-  λ b. rw b,
-  λ b. (λ n. rw (b, n), λ q r. (λ f. rw (b, r, f), λ i f. rw (b, r, f))),
 )

@@ -1,14 +1,5 @@
 -- A table looked through from its first record to its last, by what one record more at the end adds. Assumes nothing.
-use mathlib.Core.Path.{_≡_, refl, sym, ap, subst, _∙_}
-use Prim.Native.Nat.{ℕ, suc, _+_, _%_, _≤_, _<_}
-use native.Mathlib.Numerals.{add-one}
-use native.Mathlib.Omega.{arith}
-use mathlib.Core.Bool.{Bool, true, false, cond, _&&_, _||_, or-true, or-false, true≢false}
-use mathlib.Core.List.{List, [], _∷_, _++_, append-nil}
-use lib.Dec.{leb, ltb, eqb}
-use lib.ListN.{length, getD, set, take, drop, length-set, length-take, take-append-drop}
-use lib.Seq.{take-suc, take-length, take-take, append-snoc, getD-set-same}
-use borrow.Author.Tests.{eqb-true, eqb-false, eq-eqb, ne-eqb, leb-true, leb-false, lt-ltb, le-ltb}
+use Rattle.walks.proofs.Words.{_≡_, refl, sym, ap, subst, _∙_, ℕ, suc, _+_, _%_, _≤_, _<_, add-one, arith, Bool, true, false, cond, _&&_, _||_, or-true, or-false, true≢false, List, [], _∷_, _++_, append-nil, leb, ltb, eqb, length, getD, set, take, drop, length-set, length-take, take-append-drop, take-suc, take-length, take-take, append-snoc, getD-set-same, eqb-true, eqb-false, eq-eqb, ne-eqb, leb-true, leb-false, lt-ltb, le-ltb}
 use Rattle.streams.specs.declared.record.StreamRecord.{StreamRecord}
 use Rattle.streams.specs.declared.table.Found.{Found}
 use Rattle.streams.specs.declared.table.Found.the-variants.{Nothing, At}

@@ -1,7 +1,5 @@
 -- Numbers of a table of records that fit a machine word. Assumes nothing.
-use Prim.Native.Nat.{ℕ, _<_, _*_, _^_}
-use native.Mathlib.Omega.{arith}
-use mathlib.Core.List.{[], _∷_}
+use Rattle.walks.proofs.Words.{ℕ, _<_, _*_, _^_, arith, [], _∷_}
 use denote.Laws.{Is}
 use denote.Struct.Laws as LL
 use Rattle.streams.specs.declared.record.StreamRecord.{StreamRecord}

@@ -1,14 +1,15 @@
 -- What holds of the definitions: each claim is a type here, and is proved in proofs/ under its name in lower case with dashes.
 use mathlib.Core.Path.{_≡_}
-use Prim.Native.Nat.{ℕ, _/_, _<_, _≤_}
+use Prim.Native.Nat.{ℕ, _/_, _%_, _<_, _≤_}
+use mathlib.Core.Logic.{_↔_}
 use mathlib.Core.Bool.{Bool, true, false}
 use mathlib.Core.List.{[]}
 use lib.ListN.{length, getD}
 use Rattle.refusals.specs.declared.Refusal.{Refusal}
-use Rattle.refusals.specs.Numbers.{badTable, notARequestStream, alreadyInTable, noFreePlace, notInTable}
+use Rattle.refusals.specs.Numbers.{badTable, noFreePlace}
 use Rattle.wire.specs.declared.units.StreamId.{StreamId}
 use Rattle.wire.specs.declared.units.Quarter.{Quarter}
-use Rattle.wire.specs.declared.units.QuarterOf.the-variants.{NotRequestStream, Is}
+use Rattle.wire.specs.declared.units.QuarterOf.the-variants.{Is}
 use Rattle.wire.specs.Units.{isRequest, largestQuarter, quarterOf}
 use Rattle.streams.specs.declared.record.StreamRecord.{StreamRecord}
 use Rattle.streams.specs.declared.record.Side.{Side}
@@ -19,14 +20,24 @@ use Rattle.streams.specs.declared.table.Opening.the-variants as opening
 use Rattle.streams.specs.declared.table.Standing.the-variants as standing
 use Rattle.streams.specs.declared.table.Closing.{Closing}
 use Rattle.streams.specs.declared.table.Closing.the-variants as closing
-use Rattle.streams.specs.Records.{blank, opened, isUsed, receiveOpen, sendOpen, hasSemantics, bothClosed, isBadRecord, holds, withClosed, closedSide}
+use Rattle.streams.specs.Records.{blank, opened, isUsed, receiveOpen, sendOpen, hasSemantics, bothClosed, isBlank, isBadRecord, holds, withClosed, closedSide}
+use Rattle.streams.specs.Words.{UsedBelow, GoodTable}
 use Rattle.streams.specs.Tables.{Table, isBad, find, openingOf, closingOf, standingOf, tableOpened, tableClosed}
 
--- every place below n is used
-abbrev pub UsedBelow : Table → ℕ → Type 0
-UsedBelow t n = (k : ℕ) → k < n → isUsed (getD t k blank) ≡ true
-
 -- ---- records (proofs/Flags.antt, proofs/Goodness.antt, proofs/Openings.antt)
+
+-- the flags of document 01, each one bit; the other bits mean nothing
+abbrev pub FlagsExactly : Type 0
+FlagsExactly =
+    (r : StreamRecord)
+    → ((isUsed r ≡ true) ↔ (r .flags / 1 % 2 ≡ 1))
+    × ((receiveOpen r ≡ true) ↔ (r .flags / 2 % 2 ≡ 1))
+    × ((sendOpen r ≡ true) ↔ (r .flags / 4 % 2 ≡ 1))
+    × ((hasSemantics r ≡ true) ↔ (r .flags / 8 % 2 ≡ 1))
+
+-- the fixed blank: quarter 0, and no flag, so free, both sides closed, no semantics
+abbrev pub BlankExactly : Type 0
+BlankExactly = (blank .quarter .0 ≡ 0) × (blank .flags ≡ 0) × ((r : StreamRecord) → (isBlank r ≡ true → r ≡ blank) × (r ≡ blank → isBlank r ≡ true))
 
 -- a free record is good exactly if it is the fixed blank, to the last bit
 abbrev pub FreeGood : Type 0
@@ -70,12 +81,7 @@ ClosedAlready = (r : StreamRecord) → (receiveOpen r ≡ false → withClosed R
 
 -- ---- good tables (proofs/Goodness.antt)
 
--- document 01's: at most 64 records, none bad, and no quarter of a used one stands twice
-pub record GoodTable (t : Table) : Type 0 where
-  pub short : length t ≤ 64
-  pub each : (k : ℕ) → isBadRecord (getD t k blank) ≡ false
-  pub once : (j k : ℕ) → isUsed (getD t j blank) ≡ true → isUsed (getD t k blank) ≡ true → getD t j blank .quarter .0 ≡ getD t k blank .quarter .0 → j ≡ k
-
+-- a table is bad exactly if it is not as document 01 says
 abbrev pub GoodExactly : Type 0
 GoodExactly = (t : Table) → (isBad t ≡ false → GoodTable t) × (GoodTable t → isBad t ≡ false)
 
@@ -95,19 +101,6 @@ FoundOnce = (q i : ℕ) (t : Table) → isBad t ≡ false → holds q (getD t i 
 
 -- ---- opening (proofs/Openings.antt)
 
--- 15, 7, 9, 8 and the place, each exactly on its condition: the premises exclude each other and leave nothing out
-abbrev pub OpeningDecided : Type 0
-OpeningDecided =
-    (t : Table) (id : StreamId)
-    → (isBad t ≡ true → openingOf t id ≡ opening.Refused badTable)
-    × (isBad t ≡ false
-    → (quarterOf id ≡ NotRequestStream → openingOf t id ≡ opening.Refused notARequestStream)
-    × ((q : Quarter) → quarterOf id ≡ Is q
-    → ((i : ℕ) → find (q .0) t ≡ At i → openingOf t id ≡ opening.Refused alreadyInTable)
-    × (find (q .0) t ≡ Nothing
-    → (UsedBelow t (length t) → openingOf t id ≡ opening.Refused noFreePlace)
-    × ((i : ℕ) → isUsed (getD t i blank) ≡ false → i < length t → UsedBelow t i → openingOf t id ≡ opening.Opened i))))
-
 -- the lowest free place
 abbrev pub LowestTaken : Type 0
 LowestTaken = (t : Table) (id : StreamId) (i : ℕ) → openingOf t id ≡ opening.Opened i → (isUsed (getD t i blank) ≡ false) × (i < length t) × UsedBelow t i
@@ -118,18 +111,26 @@ OpenedFound =
     (t : Table) (id : StreamId) (semantics : Bool) (q : Quarter) (i : ℕ) → openingOf t id ≡ opening.Opened i → quarterOf id ≡ Is q
     → find (q .0) (tableOpened t id semantics (opening.Opened i)) ≡ At i
 
+-- and its record there is that of a stream that was just opened, with the semantics that was named
+abbrev pub OpenedStored : Type 0
+OpenedStored =
+    (t : Table) (id : StreamId) (semantics : Bool) (q : Quarter) (i : ℕ) → openingOf t id ≡ opening.Opened i → quarterOf id ≡ Is q
+    → getD (tableOpened t id semantics (opening.Opened i)) i blank ≡ opened q semantics
+
 -- ---- closing (proofs/Closings.antt)
 
--- 15, 7, 10 and the place, each exactly on its condition
-abbrev pub ClosingDecided : Type 0
-ClosingDecided =
-    (t : Table) (id : StreamId) (side : Side)
-    → (isBad t ≡ true → closingOf t id side ≡ closing.Refused badTable)
-    × (isBad t ≡ false
-    → (quarterOf id ≡ NotRequestStream → closingOf t id side ≡ closing.Refused notARequestStream)
-    × ((q : Quarter) → quarterOf id ≡ Is q
-    → (find (q .0) t ≡ Nothing → closingOf t id side ≡ closing.Refused notInTable)
-    × ((i : ℕ) → find (q .0) t ≡ At i → closingOf t id side ≡ closing.Closed i (bothClosed (withClosed side (getD t i blank))))))
+-- the place is the stream's, and it is freed exactly if no side is open any more
+abbrev pub ClosedRight : Type 0
+ClosedRight =
+    (t : Table) (id : StreamId) (side : Side) (q : Quarter) (i : ℕ) (freed : Bool) → closingOf t id side ≡ closing.Closed i freed → quarterOf id ≡ Is q
+    → (i < length t) × (holds (q .0) (getD t i blank) ≡ true) × (freed ≡ bothClosed (withClosed side (getD t i blank)))
+
+-- the record at that place afterwards: the same with that side closed, and the blank where it was freed
+abbrev pub ClosedStored : Type 0
+ClosedStored =
+    (t : Table) (id : StreamId) (side : Side) (i : ℕ) (freed : Bool) → closingOf t id side ≡ closing.Closed i freed
+    → let after : StreamRecord = getD (tableClosed t side (closing.Closed i freed)) i blank in
+    (freed ≡ true → after ≡ blank) × (freed ≡ false → after ≡ withClosed side (getD t i blank))
 
 -- a side that is closed twice while the other is open: the same record, the same answer, the same table
 abbrev pub ClosedTwice : Type 0
@@ -187,17 +188,6 @@ TooManyRefused =
 
 abbrev pub NoneIsGood : Type 0
 NoneIsGood = (id : StreamId) (q : Quarter) → quarterOf id ≡ Is q → openingOf [] id ≡ opening.Refused noFreePlace
-
--- 15, 7, 10 and the place, each exactly on its condition
-abbrev pub StandingDecided : Type 0
-StandingDecided =
-    (t : Table) (id : StreamId)
-    → (isBad t ≡ true → standingOf t id ≡ standing.Refused badTable)
-    × (isBad t ≡ false
-    → (quarterOf id ≡ NotRequestStream → standingOf t id ≡ standing.Refused notARequestStream)
-    × ((q : Quarter) → quarterOf id ≡ Is q
-    → (find (q .0) t ≡ Nothing → standingOf t id ≡ standing.Refused notInTable)
-    × ((i : ℕ) → find (q .0) t ≡ At i → standingOf t id ≡ standing.At i)))
 
 -- a stream stands at a place exactly if the table is good and the record there is a used one of its quarter
 abbrev pub StandsExactly : Type 0

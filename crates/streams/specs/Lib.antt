@@ -1,5 +1,6 @@
 pub mod Records
 pub mod Tables
+pub mod Words
 pub mod Claims
 pub mod Cases
 pub mod Code

@@ -16,6 +16,9 @@ pub enum Side {
 }
 
 impl StreamRecord {
+    // the most that a table holds
+    pub const MAX_RECORDS: usize = 64;
+
     pub const USED: u64 = 1;
 
     // the receive side is open

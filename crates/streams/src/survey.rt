@@ -16,11 +16,11 @@ pub struct Survey {
     pub place: usize,
 }
 
-// How many of n records are looked at: all, or none where they are more than 64.
+// How many of n records are looked at: all, or none where they are more than a table holds.
 pub(crate) fn fitting(n: usize) -> usize
     ensures { λ r. ⌜ r ≡ fitting n ⌝ }
 {
-    if n > 64 {
+    if n > StreamRecord::MAX_RECORDS {
         return 0;
     }
     n
@@ -32,7 +32,7 @@ pub(crate) fn nothing_seen(n: usize) -> Survey
 {
     Survey {
         places: n,
-        bad: n > 64,
+        bad: n > StreamRecord::MAX_RECORDS,
         place: n,
     }
 }

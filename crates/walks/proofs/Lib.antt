@@ -1,3 +1,5 @@
+pub mod Walk
+pub mod Words
 pub mod Meeting
 pub mod Plain
 pub mod Calling

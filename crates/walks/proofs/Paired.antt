@@ -1,10 +1,8 @@
 -- A struct that holds a struct and an answer, and nothing else: what the functions by value give back. Assumes nothing.
 use mathlib.Core.List.{[], _∷_}
-use mir.Val.{Val, vstruct, vnil, vcons}
+use Rattle.walks.proofs.Walk.{Val, vstruct, vnil, vcons, Is, row}
 use denote.Enum.Declared as enum
 use denote.Enum.Laws as EL
-use denote.Laws.{Is}
-use denote.Struct.Declared.{row}
 use Rattle.walks.proofs.Lying.{spelled}
 use Rattle.walks.proofs.Plain.{PlainStruct, IsOf, valOf}
 

@@ -1,22 +1,13 @@
 -- Writing a varint. Assumes nothing.
-use mathlib.Core.Path.{_≡_, refl, sym, ap, _∙_}
-use Prim.Native.Nat.{ℕ, zero, suc, _+_, _-_, _*_, _/_, _%_, _^_, _≤_, _<_}
-use native.Mathlib.Nat.{pow-succ', div-div-eq-div-mul, mod-lt}
-use native.Mathlib.Omega.{arith}
-use mathlib.Core.List.{List, [], _∷_, _++_}
-use lib.ListN.{length, take, length-append}
-use lib.Seq.{take-at, sets}
-use lib.Arith.{digits-lt, digits-div, digits-mod}
-use lib.Pow.{pow-add, pow-pos, pow-mono}
-use borrow.Author.Tests.{le-leb, lt-leb}
+use Rattle.walks.proofs.Words.{_≡_, refl, sym, ap, _∙_, ℕ, zero, suc, _+_, _-_, _*_, _/_, _%_, _^_, _≤_, _<_, pow-succ', div-div-eq-div-mul, mod-lt, arith, List, [], _∷_, _++_, length, take, length-append, take-at, sets, digits-lt, digits-div, digits-mod, pow-add, pow-pos, pow-mono, le-leb, lt-leb}
 use Rattle.wire.specs.declared.varint.Varint.the-variants.{Whole}
-use Rattle.wire.specs.Bytes.{Bytes, num, bytesOf}
+use Rattle.wire.specs.Bytes.{num, bytesOf}
 use Rattle.wire.specs.Varint.{largest, sizeOf, valueOf, readVarint, encodeAs, leastWidth, leastSize, encode}
 use Rattle.refusals.specs.Numbers.{outputTooShort, numberTooLarge}
 use Rattle.wire.specs.declared.varint.Written.the-variants.{Refused, Wrote}
 use Rattle.wire.specs.Writing.{writing, refuses, writeAt, writeVarint}
 use Rattle.wire.specs.Claims.{EveryFormRead, ReadBack, Shortest}
-use Rattle.wire.proofs.Numbers.{pow-256, length-bytesOf, num-bytesOf, bytesOf-first, bytesOf-halves, bytesOf-bytes}
+use Rattle.wire.proofs.Numbers.{pow-256, length-bytesOf, num-bytesOf, bytesOf-first, bytesOf-halves}
 use Rattle.wire.proofs.Reading.{split, sizeOf-at, read-whole, read-less, no-whole-nil, whole-incomplete}
 
 -- k + 1 bytes whose first one says so

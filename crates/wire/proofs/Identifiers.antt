@@ -1,16 +1,11 @@
 -- Stream IDs and quarter stream IDs. Assumes nothing.
-use mathlib.Core.Path.{_≡_, refl, sym, ap, _∙_}
-use Prim.Native.Nat.{ℕ, _-_, _*_, _/_, _%_, _^_, _≤_, _<_}
-use native.Mathlib.Omega.{arith}
-use mathlib.Core.Bool.{Bool, true, false}
-use lib.Dec.{leb, eqb}
-use borrow.Author.Tests.{le-leb, lt-leb, eq-eqb, ne-eqb, leb-true, leb-false, eqb-true, eqb-false}
+use Rattle.walks.proofs.Words.{_≡_, refl, sym, ap, _∙_, ℕ, _-_, _*_, _/_, _%_, _^_, _≤_, _<_, arith, Bool, true, false, leb, eqb, le-leb, lt-leb, eq-eqb, ne-eqb, leb-true, leb-false, eqb-true, eqb-false}
 use Rattle.wire.specs.declared.units.StreamId.{StreamId}
 use Rattle.wire.specs.declared.units.Quarter.{Quarter}
 use Rattle.wire.specs.declared.units.QuarterOf.the-variants as quarter
 use Rattle.wire.specs.declared.units.StreamOf.the-variants as stream
-use Rattle.wire.specs.Units.{isRequest, largestQuarter, quarterOf, streamOf}
-use Rattle.wire.specs.Claims.{QuarterExactly, QuarterBounded}
+use Rattle.wire.specs.Units.{IsRequestStream, isRequest, largestQuarter, quarterOf, streamOf}
+use Rattle.wire.specs.Claims.{RequestExactly, QuarterExactly, QuarterBounded}
 
 -- ---- as the code tests
 
@@ -78,6 +73,25 @@ pair-quarter id q p =
 pair-stream : (id : StreamId) (q : Quarter) → Pair (id .0) (q .0) → streamOf q ≡ stream.Is id
 unfolding largestQuarter
 pair-stream id q p = stream-is q (p .most) ∙ ap stream.Is (λ i. record { 0 = sym (p .four) i })
+
+pub request-exactly : RequestExactly
+request-exactly id = (λ q. (to q, from q), (never, none))
+  where
+    to : (q : ℕ) → quarterOf id ≡ quarter.Is (record { 0 = q }) → IsRequestStream (id .0) × (q * 4 ≡ id .0)
+    to q e = let p = quarter-pair id (record { 0 = q }) e in ((omega (arith, p .four), omega (arith, p .four, p .most)), sym (p .four))
+
+    from : (q : ℕ) → IsRequestStream (id .0) × (q * 4 ≡ id .0) → quarterOf id ≡ quarter.Is (record { 0 = q })
+    from q h = pair-quarter id (record { 0 = q }) (record { four = sym (h .1); most = omega (arith, h .0 .1, h .1) })
+
+    never : quarterOf id ≡ quarter.NotRequestStream → IsRequestStream (id .0) → ⊥
+    never e h = let z : _≡_ {A = ℕ} 0 1 = cc (quarter-is id (h .1) (h .0)) in omega arith
+
+    none : (IsRequestStream (id .0) → ⊥) → quarterOf id ≡ quarter.NotRequestStream
+    none n = go (leb (id .0) (2 ^ 62 - 1)) refl
+      where
+        go : (a : Bool) → leb (id .0) (2 ^ 62 - 1) ≡ a → quarterOf id ≡ quarter.NotRequestStream
+        go true x = let l = leb-true (id .0) (2 ^ 62 - 1) x in quarter-uneven id l (λ d. n (d, l))
+        go false x = quarter-large id (leb-false (id .0) (2 ^ 62 - 1) x)
 
 pub quarter-exactly : QuarterExactly
 quarter-exactly id q = (λ e. pair-stream id q (quarter-pair id q e), λ e. pair-quarter id q (stream-pair id q e))

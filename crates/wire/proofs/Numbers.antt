@@ -1,15 +1,5 @@
 -- Bytes and big-endian numbers. Assumes nothing.
-use mathlib.Core.Path.{_≡_, refl, sym, ap, _∙_}
-use Prim.Native.Nat.{ℕ, zero, suc, _+_, _*_, _/_, _%_, _^_, _≤_, _<_}
-use native.Mathlib.Nat.{add-zero, div-div-eq-div-mul, pow-suc, pow-succ', div-one, mod-eq-of-lt, div-lt-iff-lt-mul, one-le-pow}
-use native.Mathlib.Numerals.{add-one}
-use native.Mathlib.Omega.{arith}
-use mathlib.Core.List.{List, [], _∷_, _++_}
-use lib.ListN.{length, getD, take, drop, set, length-drop}
-use lib.Seq.{take-suc, drop-cons, drop-drop, take-add, length-take-le, sets}
-use lib.Arith.{digits-div, digits-mod, mod-mul}
-use lib.Pow.{pow-add, pow-mono}
-use lib.Dec.{lit<}
+use Rattle.walks.proofs.Words.{_≡_, refl, sym, ap, _∙_, ℕ, zero, suc, _+_, _*_, _/_, _%_, _^_, _≤_, _<_, add-zero, div-div-eq-div-mul, pow-suc, pow-succ', div-one, mod-eq-of-lt, div-lt-iff-lt-mul, one-le-pow, add-one, arith, List, [], _∷_, _++_, length, getD, take, drop, set, length-drop, take-suc, drop-cons, drop-drop, take-add, length-take-le, sets, digits-div, digits-mod, mod-mul, pow-add, pow-mono, lit<}
 use Rattle.wire.specs.Bytes.{Bytes, numFrom, num, bytesOf}
 
 -- ---- bytes

@@ -1,14 +1,5 @@
 -- A varint of which a part has come. Assumes nothing.
-use mathlib.Core.Path.{_≡_, refl, sym, ap, _∙_, subst}
-use Prim.Native.Nat.{ℕ, zero, suc, _+_, _-_, _*_, _/_, _^_, _≤_, _<_}
-use native.Mathlib.Nat.{pow-succ', div-lt-iff-lt-mul}
-use native.Mathlib.Omega.{arith}
-use mathlib.Core.Bool.{Bool, true, false, _&&_}
-use mathlib.Core.List.{List, [], _∷_, _++_}
-use lib.ListN.{length, take, length-append}
-use lib.Seq.{take-append-add, take-length}
-use lib.Dec.{ltb, eqb}
-use borrow.Author.Tests.{ltb-true, lt-ltb, ne-eqb, eqb-true}
+use Rattle.walks.proofs.Words.{_≡_, refl, sym, ap, _∙_, subst, ℕ, zero, suc, _+_, _-_, _*_, _/_, _^_, _≤_, _<_, pow-succ', div-lt-iff-lt-mul, arith, Bool, true, false, _&&_, List, [], _∷_, _++_, length, take, length-append, take-append-add, take-length, ltb, eqb, ltb-true, lt-ltb, ne-eqb, eqb-true}
 use Rattle.wire.specs.declared.varint.Varint.{Varint}
 use Rattle.wire.specs.declared.varint.Varint.the-variants.{Incomplete, Whole}
 use Rattle.wire.specs.declared.partial.Partial.{Partial}
@@ -16,7 +7,7 @@ use Rattle.wire.specs.declared.partial.Taken.the-variants.{Impossible, M
 use Rattle.wire.specs.Bytes.{Bytes, numFrom, num, bytesOf}
 use Rattle.wire.specs.Varint.{sizeOf, valueOf, readVarint}
 use Rattle.wire.specs.Partial.{partial, partialOf, heldBytes, starts, isPartial, takenOf, takeVarint}
-use Rattle.wire.specs.Claims.{GoesOn, OccursExactly}
+use Rattle.wire.specs.Claims.{GoesOn, OccursExactly, ImpossibleExactly}
 use Rattle.wire.proofs.Numbers.{pow-256, pow-256-pos, num-lt, num-first, length-bytesOf, bytesOf-bytes, bytesOf-num, num-bytesOf, bytesOf-first, numFrom-append}
 use Rattle.wire.proofs.Reading.{sizeOf-le, read-nil, read-whole, read-less, less-read}
 
@@ -244,6 +235,18 @@ empty-is = refl
 pub take-impossible : (p : Partial) (s : List ℕ) → isPartial p ≡ false → Impossible ≡ takeVarint p s
 unfolding takeVarint
 take-impossible p s e = rw e
+
+taken-possible : (have : ℕ) (joined : List ℕ) (v : Varint) → takenOf have joined v ≡ Impossible → ⊥
+unfolding takenOf
+taken-possible have joined Incomplete e = let z : _≡_ {A = ℕ} 0 1 = cc in omega arith
+taken-possible have joined (Whole value size) e = let z : _≡_ {A = ℕ} 0 1 = cc in omega arith
+
+pub impossible-exactly : ImpossibleExactly
+impossible-exactly p s = (go (isPartial p) refl, λ e. sym (take-impossible p s e))
+  where
+    go : (b : Bool) → isPartial p ≡ b → takeVarint p s ≡ Impossible → isPartial p ≡ false
+    go false d e = d
+    go true d e = absurd (taken-possible (p .have) (heldBytes p ++ s) (readVarint (heldBytes p ++ s)) (unfold takeVarint in rw d at e))
 
 pub take-empty : (p : Partial) (s : List ℕ) → p .have ≡ 0 → p .raw ≡ 0 → takeVarint (partialOf []) s ≡ takeVarint p s
 take-empty p s h r = ap (λ (q : Partial). takeVarint q s) (empty-is ∙ (λ i. record { have = sym h i; raw = sym r i }))

@@ -1,14 +1,5 @@
 -- Reading a varint. Assumes nothing.
-use mathlib.Core.Path.{_≡_, refl, sym, ap, _∙_}
-use Prim.Native.Nat.{ℕ, zero, suc, _-_, _*_, _/_, _%_, _^_, _≤_, _<_}
-use native.Mathlib.Nat.{lt-of-not-le, mod-lt, mod-eq-of-lt}
-use native.Mathlib.Decide.{decLe}
-use native.Mathlib.Omega.{arith}
-use mathlib.Core.List.{List, [], _∷_, _++_}
-use lib.ListN.{length, getD, take, length-append}
-use lib.Seq.{take-append-le, take-take, length-take-le}
-use lib.Pow.{pow-pos, pow-mono, pow-lt}
-use borrow.Author.Tests.{le-leb, lt-leb}
+use Rattle.walks.proofs.Words.{_≡_, refl, sym, ap, _∙_, ℕ, zero, suc, _-_, _*_, _/_, _%_, _^_, _≤_, _<_, lt-of-not-le, mod-lt, mod-eq-of-lt, decLe, arith, List, [], _∷_, _++_, length, getD, take, length-append, take-append-le, take-take, length-take-le, pow-pos, pow-mono, pow-lt, le-leb, lt-leb}
 use Rattle.wire.specs.declared.varint.Varint.{Varint}
 use Rattle.wire.specs.declared.varint.Varint.the-variants.{Incomplete, Whole}
 use Rattle.wire.specs.Bytes.{Bytes, num, bytesOf}

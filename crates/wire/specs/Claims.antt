@@ -1,20 +1,25 @@
 -- What holds of the definitions: each claim is a type here, and is proved in proofs/ under the name given.
 use mathlib.Core.Path.{_≡_}
 use mathlib.Core.Logic.{_↔_}
-use mathlib.Core.Bool.{true}
+use mathlib.Core.Bool.{true, false}
 use Prim.Native.Nat.{ℕ, _-_, _*_, _^_, _≤_, _<_}
 use mathlib.Core.List.{List, [], _∷_, _++_}
 use lib.ListN.{length, take}
+use lib.Seq.{sets}
+use Rattle.refusals.specs.declared.Refusal.{Refusal}
 use Rattle.wire.specs.declared.varint.Varint.the-variants.{Incomplete, Whole}
+use Rattle.wire.specs.declared.varint.Written.the-variants.{Refused, Wrote}
 use Rattle.wire.specs.declared.partial.Partial.{Partial}
+use Rattle.wire.specs.declared.partial.Taken.the-variants.{Impossible}
 use Rattle.wire.specs.declared.units.StreamId.{StreamId}
 use Rattle.wire.specs.declared.units.Quarter.{Quarter}
 use Rattle.wire.specs.declared.units.QuarterOf.the-variants as quarter
 use Rattle.wire.specs.declared.units.StreamOf.the-variants as stream
 use Rattle.wire.specs.Bytes.{Bytes}
 use Rattle.wire.specs.Varint.{largest, sizeOf, readVarint, encodeAs, leastSize, encode}
+use Rattle.wire.specs.Writing.{Writing, writeVarint}
 use Rattle.wire.specs.Partial.{partialOf, isPartial, takenOf, takeVarint}
-use Rattle.wire.specs.Units.{largestQuarter, quarterOf, streamOf}
+use Rattle.wire.specs.Units.{IsRequestStream, largestQuarter, quarterOf, streamOf}
 
 -- ---- reading (proofs/Reading.antt)
 
@@ -44,6 +49,17 @@ ReadBack = (n : ℕ) → n ≤ largest → (rest : List ℕ) → (readVarint (en
 abbrev pub Shortest : Type 0
 Shortest = (s : List ℕ) (n size : ℕ) → readVarint s ≡ Whole n size → leastSize n ≤ size
 
+-- ---- writing at a place (proofs/Leaving.antt)
+
+-- a writer of these bytes: where it refuses, the output is as lent; where not, they stand from the place on, no other byte changed, and their
+-- number is answered
+pub record Leaves (bytes out : List ℕ) (place : ℕ) (w : Writing) : Type 0 where
+  pub refused : (why : Refusal) → w .answer ≡ Refused why → w .output ≡ out
+  pub wrote : (k : ℕ) → w .answer ≡ Wrote k → (k ≡ length bytes) × (w .output ≡ sets out place bytes)
+
+abbrev pub VarintLeaves : Type 0
+VarintLeaves = (n : ℕ) (out : List ℕ) (place : ℕ) → Leaves (encode n) out place (writeVarint n out place)
+
 -- ---- a varint of which a part has come (proofs/Parts.antt)
 
 -- a part that goes on by more bytes comes to what is read at all of them
@@ -54,7 +70,14 @@ GoesOn = (s t : List ℕ) → Bytes s → readVarint s ≡ Incomplete → takeVa
 abbrev pub OccursExactly : Type 0
 OccursExactly = (p : Partial) → (isPartial p ≡ true) ↔ ((s : List ℕ) × Bytes s × (readVarint s ≡ Incomplete) × (partialOf s ≡ p))
 
+-- any other pair cannot be a part, and only such a one is answered so
+abbrev pub ImpossibleExactly : Type 0
+ImpossibleExactly = (p : Partial) (s : List ℕ) → (takeVarint p s ≡ Impossible) ↔ (isPartial p ≡ false)
+
 -- ---- stream IDs (proofs/Identifiers.antt)
+
+abbrev pub RequestExactly : Type 0
+RequestExactly = (id : StreamId) → ((q : ℕ) → (quarterOf id ≡ quarter.Is (record { 0 = q })) ↔ IsRequestStream (id .0) × (q * 4 ≡ id .0)) × ((quarterOf id ≡ quarter.NotRequestStream) ↔ (IsRequestStream (id .0) → ⊥))
 
 -- each request stream has one quarter, and each quarter is one request stream's
 abbrev pub QuarterExactly : Type 0

@@ -1,6 +1,7 @@
 // Stream IDs and quarter stream IDs (RFC 9297, section 2.1). Either holds any number: whether it is one is asked where it is converted.
 ghost use mathlib.Core.Path.{_≡_};
 ghost use Rattle.wire.specs.Units.{quarterOf, streamOf};
+use crate::varint::Varint;
 
 pub struct StreamId(pub u64);
 
@@ -18,7 +19,7 @@ pub enum StreamOf {
 }
 
 impl StreamId {
-    pub const MAX: StreamId = StreamId(4611686018427387903);
+    pub const MAX: StreamId = StreamId(Varint::MAX);
 
     // The quarter of a request stream's ID.
     pub fn quarter(self) -> QuarterOf

@@ -14,6 +14,32 @@ pub enum Varint {
     Whole { value: u64, size: usize },
 }
 
+impl Varint {
+    // the largest number
+    pub const MAX: u64 = 4611686018427387903;
+
+    // the largest numbers of one, of two and of four bytes
+    pub const MAX_OF_1: u64 = 63;
+
+    pub const MAX_OF_2: u64 = 16383;
+
+    pub const MAX_OF_4: u64 = 1073741823;
+
+    // the least first byte of two, of four and of eight
+    pub const FIRST_OF_2: u8 = 0x40;
+
+    pub const FIRST_OF_4: u8 = 0x80;
+
+    pub const FIRST_OF_8: u8 = 0xc0;
+
+    // two, four and eight bytes that are the number 0
+    const ZERO_OF_2: u64 = 0x4000;
+
+    const ZERO_OF_4: u64 = 0x80000000;
+
+    const ZERO_OF_8: u64 = 0xc000000000000000;
+}
+
 pub enum Written {
     Refused(Refusal),
     Wrote(usize),
@@ -29,11 +55,11 @@ pub(crate) fn wide(b: u8) -> u64
 pub(crate) fn size_of(first: u8) -> usize
     ensures { λ r. ⌜ r ≡ sizeOf first ⌝ }
 {
-    if first < 64 {
+    if first < Varint::FIRST_OF_2 {
         1
-    } else if first < 128 {
+    } else if first < Varint::FIRST_OF_4 {
         2
-    } else if first < 192 {
+    } else if first < Varint::FIRST_OF_8 {
         4
     } else {
         8
@@ -67,12 +93,16 @@ fn long_form(first: u8, w: u64) -> Varint
     requires { ⌜ (first ≡ w / 2 ^ 56) × (128 ≤ first) ⌝ }
     ensures { λ r. ⌜ r ≡ readVarint (bytesOf 8 w) ⌝ }
 {
-    let value = if first >= 192 {
-        w - 13835058055282163712
+    let value = if first >= Varint::FIRST_OF_8 {
+        w - Varint::ZERO_OF_8
     } else {
-        w / 4294967296 - 2147483648
+        w / 4294967296 - Varint::ZERO_OF_4
     };
-    let size = if first >= 192 { 8usize } else { 4usize };
+    let size = if first >= Varint::FIRST_OF_8 {
+        8usize
+    } else {
+        4usize
+    };
     Varint::Whole {
         value: value,
         size: size,
@@ -87,13 +117,13 @@ pub fn read_varint(s: &[u8]) -> Varint
         return Varint::Incomplete;
     }
     let first = s[0];
-    if first < 64 {
+    if first < Varint::FIRST_OF_2 {
         return Varint::Whole {
             value: wide(first),
             size: 1,
         };
     }
-    if first < 128 {
+    if first < Varint::FIRST_OF_4 {
         if room < 2 {
             return Varint::Incomplete;
         }
@@ -105,7 +135,7 @@ pub fn read_varint(s: &[u8]) -> Varint
     if room >= 8 {
         return long_form(first, number8(s, 0));
     }
-    if first < 192 {
+    if first < Varint::FIRST_OF_8 {
         if room < 4 {
             return Varint::Incomplete;
         }
@@ -121,11 +151,11 @@ pub fn read_varint(s: &[u8]) -> Varint
 pub fn least_size(n: u64) -> usize
     ensures { λ r. ⌜ r ≡ leastSize n ⌝ }
 {
-    if n < 64 {
+    if n <= Varint::MAX_OF_1 {
         1
-    } else if n < 16384 {
+    } else if n <= Varint::MAX_OF_2 {
         2
-    } else if n < 1073741824 {
+    } else if n <= Varint::MAX_OF_4 {
         4
     } else {
         8
@@ -161,14 +191,14 @@ fn put_varint(out: &mut [u8], at: usize, n: u64)
     requires { ⌜ (at + leastSize n ≤ length (now out)) × (n ≤ largest) ⌝ }
     ensures { λ _. ⌜ now (out .exit) ≡ sets (now (out .entry)) at (encode n) ⌝ }
 {
-    if n <= 63 {
+    if n <= Varint::MAX_OF_1 {
         out[at] = n as u8;
-    } else if n <= 16383 {
-        put2(out, at, 16384 + n);
-    } else if n <= 1073741823 {
-        put4(out, at, 2147483648 + n);
+    } else if n <= Varint::MAX_OF_2 {
+        put2(out, at, Varint::ZERO_OF_2 + n);
+    } else if n <= Varint::MAX_OF_4 {
+        put4(out, at, Varint::ZERO_OF_4 + n);
     } else {
-        put8(out, at, 13835058055282163712 + n);
+        put8(out, at, Varint::ZERO_OF_8 + n);
     }
 }
 
@@ -176,7 +206,7 @@ fn put_varint(out: &mut [u8], at: usize, n: u64)
 pub fn write_varint(n: u64, out: &mut [u8], place: usize) -> Written
     ensures { λ r. ⌜ writing r (now (out .exit)) ≡ writeVarint n (now (out .entry)) place ⌝ }
 {
-    if n > 4611686018427387903 {
+    if n > Varint::MAX {
         return Written::Refused(Refusal::NUMBER_TOO_LARGE);
     }
     let size = least_size(n);

@@ -1,6 +1,4 @@
-use native.Mathlib.Omega.{arith}
-use mathlib.Core.Path.{_≡_, sym, _∙_}
-use Prim.Native.Nat.{_-_}
+use Rattle.walks.proofs.Words.{arith, _≡_, sym, _∙_, _-_}
 use Rattle.wire.specs.Varint.{largest}
 use Rattle.addresses.specs.Addresses.{allOf}
 use Rattle.address_writer.specs.Rows.{entriesIn}

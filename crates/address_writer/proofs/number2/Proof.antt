@@ -1,13 +1,7 @@
-use native.Mathlib.Omega.{arith}
-use mathlib.Core.Path.{_∙_}
-use Prim.Native.Nat.{_+_}
+use Rattle.walks.proofs.Words.{arith, _∙_, _+_, needs}
 use Rattle.address_writer.proofs.Rows.{little-one, little-halves}
-use borrow.Author.Needs.{needs}
 use Rattle.address_writer.proofs.number2.Statement.{statement}
 use Rattle.address_writer.proofs.number2.Tie as tie
-
-mul-result : tie.Need-mul-result
-mul-result c = let at = c .before .before .before .before .before .args .at in omega (arith, c .before .shared-slice-known3 .given (at + 1), c .wide2 .ensures)
 
 add-result : tie.Need-add-result
 add-result c = let at = c .before .before .before .before .before .args .at in omega (arith, c .before .shared-slice-known3 .given at, c .before .shared-slice-known3 .given (at + 1), c .before .before .wide .ensures, c .wide2 .ensures)
@@ -27,6 +21,6 @@ number2-spec =
     (λ c. search needs)
     (λ c. search needs)
     (λ c κs. search needs)
-    mul-result
+    (λ c. let at = c .before .before .before .before .before .args .at in omega (arith, c .before .shared-slice-known3 .given (at + 1), c .wide2 .ensures))
     add-result
     returns)

@@ -1,6 +1,5 @@
-use native.Mathlib.Omega.{arith}
+use Rattle.walks.proofs.Words.{arith, needs}
 use Rattle.address_writer.proofs.Rows.{little-halves}
-use borrow.Author.Needs.{needs}
 use Rattle.address_writer.proofs.number8.Statement.{statement}
 use Rattle.address_writer.proofs.number8.Tie as tie
 

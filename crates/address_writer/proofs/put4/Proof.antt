@@ -1,12 +1,7 @@
-use native.Mathlib.Omega.{arith}
-use lib.ListN.{length-set}
+use Rattle.walks.proofs.Words.{arith, length-set, needs}
 use Rattle.address_writer.proofs.Putting.{put-four}
-use borrow.Author.Needs.{needs}
 use Rattle.address_writer.proofs.put4.Statement.{statement}
 use Rattle.address_writer.proofs.put4.Tie as tie
-
-returns : tie.Need-returns
-returns c = let a = c .before .before .before .before .args in put-four (a .s .now) (a .from) (a .out .now) (a .at) (omega arith)
 
 pub put4-spec : {M : Type 1} → statement M
 put4-spec =
@@ -28,4 +23,4 @@ put4-spec =
     (λ c. simp length-set (omega arith))
     (λ c. search needs)
     (λ c. search needs)
-    returns)
+    (λ c. let a = c .before .before .before .before .args in put-four (a .s .now) (a .from) (a .out .now) (a .at) (omega arith)))

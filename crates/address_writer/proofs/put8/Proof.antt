@@ -1,6 +1,5 @@
-use native.Mathlib.Omega.{arith}
+use Rattle.walks.proofs.Words.{arith, needs}
 use Rattle.address_writer.proofs.Putting.{put-halves}
-use borrow.Author.Needs.{needs}
 use Rattle.address_writer.proofs.put8.Statement.{statement}
 use Rattle.address_writer.proofs.put8.Tie as tie
 

@@ -1,8 +1,5 @@
-use native.Mathlib.Omega.{arith}
-use lib.ListN.{getD}
-use Prim.Native.Nat.{_+_}
+use Rattle.walks.proofs.Words.{arith, getD, _+_, needs}
 use Rattle.address_writer.proofs.Putting.{size-most, encode-most, address-most, put-entry}
-use borrow.Author.Needs.{needs}
 use Rattle.address_writer.proofs.put_entry.Statement.{statement}
 use Rattle.address_writer.proofs.put_entry.Tie as tie
 

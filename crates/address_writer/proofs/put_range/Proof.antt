@@ -1,9 +1,6 @@
-use native.Mathlib.Omega.{arith}
-use lib.ListN.{getD}
-use Prim.Native.Nat.{_+_}
+use Rattle.walks.proofs.Words.{arith, getD, _+_, needs}
 use Rattle.wire.proofs.Numbers.{bytes-each}
 use Rattle.address_writer.proofs.Putting.{address-most, put-range}
-use borrow.Author.Needs.{needs}
 use Rattle.address_writer.proofs.put_range.Statement.{statement}
 use Rattle.address_writer.proofs.put_range.Tie as tie
 

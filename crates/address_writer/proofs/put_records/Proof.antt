@@ -1,10 +1,5 @@
 use Rattle.address_writer.proofs.Rows.{few}
-use native.Mathlib.Omega.{arith}
-use borrow.Author.Needs.{needs}
-use mathlib.Core.Path.{_≡_, refl, _∙_}
-use mathlib.Core.Bool.{true, false}
-use Prim.Native.Nat.{_-_, _≤_}
-use lib.ListN.{length}
+use Rattle.walks.proofs.Words.{arith, needs, _≡_, refl, _∙_, true, false, _-_, _≤_, length}
 use Rattle.addresses.specs.Addresses.{allOf}
 use Rattle.address_writer.specs.Writer.{idFits}
 use Rattle.address_writer.proofs.Rows.{inside, ids, ids-all}

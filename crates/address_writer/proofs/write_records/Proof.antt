@@ -1,9 +1,6 @@
-use native.Mathlib.Omega.{arith}
-use mathlib.Core.Path.{sym}
-use lib.Seq.{length-take-le}
+use Rattle.walks.proofs.Words.{arith, sym, length-take-le, needs}
 use Rattle.address_writer.specs.Putting.{valueIn}
 use Rattle.address_writer.proofs.Writing.{surplus, too-long, gathered}
-use borrow.Author.Needs.{needs}
 use Rattle.address_writer.proofs.write_records.Statement.{statement}
 use Rattle.address_writer.proofs.write_records.Tie as tie
 

@@ -1,19 +1,9 @@
-use native.Mathlib.Omega.{arith}
-use mathlib.Core.Path.{sym, _∙_}
-use lib.ListN.{length}
-use borrow.Author.Tests.{not-true, not-false}
+use Rattle.walks.proofs.Words.{arith, sym, _∙_, length, not-true, not-false, needs}
 use Rattle.wire.proofs.Encoding.{length-encode}
 use Rattle.address_writer.proofs.Putting.{size-most}
 use Rattle.address_writer.proofs.Writing.{malformed, short, fits, formed-short, formed-largest, put-span}
-use borrow.Author.Needs.{needs}
 use Rattle.address_writer.proofs.write_value.Statement.{statement}
 use Rattle.address_writer.proofs.write_value.Tie as tie
-
-returns : tie.Need-returns
-returns c = let a = c .before .before .before .before .args in malformed (a .ctype) (a .value .now) (a .out .now) (a .place) (sym (c .before .well-formed .ensures) ∙ not-true _ (c .if1 .taken))
-
-add-head : tie.Need-add-head
-add-head c = omega (arith, c .least-size .ensures, size-most (length (c .before .before .before .before .before .args .value .now)))
 
 returns-2 : tie.Need-returns-2
 returns-2 c = let a = c .before .before .before .before .before .before .args in short (a .ctype) (a .value .now) (a .out .now) (a .place) (sym (c .before .before .before .well-formed .ensures) ∙ not-false _ (c .before .before .if1 .left)) (c .before .least-size .result) (c .before .least-size .ensures) (omega arith)
@@ -38,9 +28,9 @@ write-value-spec =
     tie.close
     (tie.spec
     (λ c κs. search needs)
-    returns
+    (λ c. let a = c .before .before .before .before .args in malformed (a .ctype) (a .value .now) (a .out .now) (a .place) (sym (c .before .well-formed .ensures) ∙ not-true _ (c .if1 .taken)))
     (λ c κs. search needs)
-    add-head
+    (λ c. omega (arith, c .least-size .ensures, size-most (length (c .before .before .before .before .before .args .value .now))))
     returns-2
     (λ c. search needs)
     add-if3

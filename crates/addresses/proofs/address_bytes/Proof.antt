@@ -1,9 +1,4 @@
-use lib.ListN.{set, take, drop, replicate, getD}
-use native.Mathlib.Omega.{arith}
-use mathlib.Core.Path.{_≡_, _∙_, refl, ap}
-use mathlib.Core.List.{List, _++_}
-use native.Mathlib.Nat.{le-antisymm}
-use Prim.Native.Nat.{ℕ, _+_, _-_, _≤_}
+use Rattle.walks.proofs.Words.{set, take, drop, replicate, getD, arith, _≡_, _∙_, refl, ap, List, _++_, le-antisymm, ℕ, _+_, _-_, _≤_}
 use Rattle.addresses.proofs.Handing as H
 use Rattle.addresses.proofs.address_bytes.Statement.{statement}
 use Rattle.addresses.proofs.address_bytes.Tie as tie

@@ -1,9 +1,4 @@
-use native.Mathlib.Omega.{arith}
-use mathlib.Core.Path.{_≡_, sym, _∙_}
-use Prim.Native.Nat.{_-_, _≤_}
-use native.Mathlib.Nat.{le-antisymm}
-use lib.ListN.{take, drop}
-use lib.Dec.{ltb}
+use Rattle.walks.proofs.Words.{arith, _≡_, sym, _∙_, _-_, _≤_, le-antisymm, take, drop, ltb}
 use Rattle.wire.specs.Bytes.{num}
 use Rattle.wire.proofs.Numbers.{bytes-each}
 use Rattle.addresses.proofs.Runs.{left, below-less, below-more, below-same, below-end, below-start}

@@ -1,9 +1,4 @@
-use borrow.Author.Tests.{not-true, not-false}
-use native.Mathlib.Omega.{arith}
-use borrow.Author.Needs.{needs}
-use mathlib.Core.Path.{_≡_, sym, _∙_}
-use Prim.Native.Nat.{_-_, _≤_}
-use lib.ListN.{take, drop}
+use Rattle.walks.proofs.Words.{not-true, not-false, arith, needs, _≡_, sym, _∙_, _-_, _≤_, take, drop}
 use Rattle.addresses.specs.Addresses.{clearBeyond}
 use Rattle.addresses.proofs.Runs as R
 use Rattle.addresses.proofs.clear_beyond.Statement.{statement}

@@ -1,13 +1,8 @@
-use Prim.Native.Nat.{_-_}
-use native.Mathlib.Omega.{arith}
+use Rattle.walks.proofs.Words.{_-_, arith, needs}
 use Rattle.addresses.proofs.Runs.{clear-whole, shift-pos, shift-is}
-use borrow.Author.Needs.{needs}
 use Rattle.addresses.proofs.clear_byte.Statement.{statement}
 use Rattle.addresses.proofs.clear_byte.Tie as tie
 
-returns-2 : tie.Need-returns-2
-returns-2 c = let s = c .before .before in rw (shift-is (8 - s .args .p) (omega arith), c .wide .ensures)
-
 pub clear-byte-spec : {M : Type 1} → statement M
 clear-byte-spec =
-    tie.close (tie.spec (λ c. clear-whole (c .before .args .b) (c .before .args .p) (c .if1 .taken)) (λ c κs. search needs) (λ c. search needs) (λ c. search needs) (λ c. shift-pos (8 - c .before .before .args .p) (omega arith)) returns-2)
+    tie.close (tie.spec (λ c. clear-whole (c .before .args .b) (c .before .args .p) (c .if1 .taken)) (λ c κs. search needs) (λ c. search needs) (λ c. search needs) (λ c. shift-pos (8 - c .before .before .args .p) (omega arith)) (λ c. let s = c .before .before in rw (shift-is (8 - s .args .p) (omega arith), c .wide .ensures)))

@@ -1,11 +1,7 @@
-use mathlib.Core.Path.{_∙_}
+use Rattle.walks.proofs.Words.{_∙_, needs}
 use Rattle.addresses.proofs.Judging as J
-use borrow.Author.Needs.{needs}
 use Rattle.addresses.proofs.clear_from.Statement.{statement}
 use Rattle.addresses.proofs.clear_from.Tie as tie
-
-returns : tie.Need-returns
-returns c = let s = c .before .before .before in J.clear-other (s .args .value .now) (s .args .at) (s .args .s) (s .args .width) (c .if1 .taken)
 
 returns-2 : tie.Need-returns-2
 returns-2 c = let k = c .before .before in let s = k .before .before .before in
@@ -23,7 +19,7 @@ clear-from-spec =
     (λ c. search needs)
     (λ c. search needs)
     (λ c. search needs)
-    returns
+    (λ c. let s = c .before .before .before in J.clear-other (s .args .value .now) (s .args .at) (s .args .s) (s .args .width) (c .if1 .taken))
     (λ c. search needs)
     (λ c. search needs)
     (λ c. search needs)

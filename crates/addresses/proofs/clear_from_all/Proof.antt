@@ -1,7 +1,4 @@
-use native.Mathlib.Omega.{arith}
-use mathlib.Core.Path.{_≡_, sym, _∙_}
-use Prim.Native.Nat.{_+_, _-_, _*_, _/_, _≤_, _<_}
-use native.Mathlib.Nat.{le-antisymm}
+use Rattle.walks.proofs.Words.{arith, _≡_, sym, _∙_, _+_, _-_, _*_, _/_, _≤_, _<_, le-antisymm}
 use Rattle.addresses.specs.Places.{Rising}
 use Rattle.addresses.proofs.Search as S
 use Rattle.addresses.proofs.clear_from_all.Statement.{statement}

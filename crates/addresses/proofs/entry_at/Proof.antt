@@ -1,11 +1,7 @@
 use Rattle.wire.specs.Varint.{readVarint}
-use native.Mathlib.Omega.{arith}
-use mathlib.Core.Path.{_≡_, sym, _∙_, ap}
-use Prim.Native.Nat.{_+_, _≤_}
-use lib.ListN.{drop, length}
+use Rattle.walks.proofs.Words.{arith, _≡_, sym, _∙_, ap, _+_, _≤_, drop, length, needs}
 use Rattle.wire.specs.declared.varint.Varint.the-variants.{Whole}
 use Rattle.addresses.proofs.Reading as L
-use borrow.Author.Needs.{needs}
 use Rattle.addresses.proofs.entry_at.Statement.{statement}
 use Rattle.addresses.proofs.entry_at.Tie as tie
 

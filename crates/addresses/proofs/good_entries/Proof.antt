@@ -1,11 +1,4 @@
-use mathlib.Core.Path.{_≡_, sym, _∙_, refl}
-use mathlib.Core.Bool.{Bool, cond, false, true}
-use mathlib.Core.Logic.{⊎-elim}
-use Prim.Native.Nat.{_+_, _-_, _≤_, _<_}
-use native.Mathlib.Omega.{arith}
-use lib.ListN.{length, drop}
-use borrow.Author.Needs.{needs}
-use borrow.Author.Tests.{not-true, not-false}
+use Rattle.walks.proofs.Words.{_≡_, sym, _∙_, refl, Bool, cond, false, true, ⊎-elim, _+_, _-_, _≤_, _<_, arith, length, drop, needs, not-true, not-false}
 use Rattle.addresses.specs.Addresses.{widthOf, Entry, entries, entryAt, areGood, allOf, goodEntry, asks}
 use Rattle.addresses.specs.Places.{entryIn}
 use Rattle.addresses.proofs.Reading as L

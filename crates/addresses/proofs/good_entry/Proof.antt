@@ -1,6 +1,5 @@
-use mathlib.Core.Path.{_∙_}
+use Rattle.walks.proofs.Words.{_∙_, needs}
 use Rattle.addresses.proofs.Judging as J
-use borrow.Author.Needs.{needs}
 use Rattle.addresses.proofs.good_entry.Statement.{statement}
 use Rattle.addresses.proofs.good_entry.Tie as tie
 

@@ -1,9 +1,4 @@
-use native.Mathlib.Omega.{arith}
-use borrow.Author.Needs.{needs}
-use borrow.Author.Tests.{not-true, not-false}
-use mathlib.Core.Path.{_≡_, sym, _∙_, refl}
-use Prim.Native.Nat.{_+_, _-_, _≤_}
-use lib.ListN.{length, drop, getD}
+use Rattle.walks.proofs.Words.{arith, needs, not-true, not-false, _≡_, sym, _∙_, refl, _+_, _-_, _≤_, length, drop, getD}
 use Rattle.addresses.specs.Addresses.{widthOf, entries, rangeAt, areGood, goodRanges, next}
 use Rattle.addresses.specs.Pass.{Seen, nothing, pass, fits, after, sameOf}
 use Rattle.addresses.specs.Places.{rangeIn, Preceded, Stands, Rising}

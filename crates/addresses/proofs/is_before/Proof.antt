@@ -1,15 +1,7 @@
-use native.Mathlib.Nat.{le-antisymm}
-use mathlib.Core.Path.{_∙_}
+use Rattle.walks.proofs.Words.{le-antisymm, _∙_, needs}
 use Rattle.addresses.proofs.Judging as J
-use borrow.Author.Needs.{needs}
 use Rattle.addresses.proofs.is_before.Statement.{statement}
 use Rattle.addresses.proofs.is_before.Tie as tie
-
-returns : tie.Need-returns
-returns c = let s = c .before .before .before .before in J.before-newer (s .args .value .now) (s .args .previous) (s .args .at) (s .args .width) (s .pre .2) (c .if1 .taken)
-
-returns-2 : tie.Need-returns-2
-returns-2 c = let s = c .before .before .before .before .before .before .before in J.before-older (s .args .value .now) (s .args .previous) (s .args .at) (s .args .width) (s .pre .2) (c .if2 .taken)
 
 returns-3 : tie.Need-returns-3
 returns-3 c = let k = c .before .before .before in let s = k .before .before .before .before .before .before .before in
@@ -29,10 +21,10 @@ is-before-spec =
     (tie.spec
     (λ c. search needs)
     (λ c. search needs)
-    returns
+    (λ c. let s = c .before .before .before .before in J.before-newer (s .args .value .now) (s .args .previous) (s .args .at) (s .args .width) (s .pre .2) (c .if1 .taken))
     (λ c. search needs)
     (λ c. search needs)
-    returns-2
+    (λ c. let s = c .before .before .before .before .before .before .before in J.before-older (s .args .value .now) (s .args .previous) (s .args .at) (s .args .width) (s .pre .2) (c .if2 .taken))
     (λ c. search needs)
     (λ c. search needs)
     (λ c. search needs)

@@ -1,12 +1,7 @@
-use mathlib.Core.Path.{sym, _∙_}
-use borrow.Author.Tests.{not-true, not-false}
+use Rattle.walks.proofs.Words.{sym, _∙_, not-true, not-false, needs}
 use Rattle.addresses.proofs.Judging as J
-use borrow.Author.Needs.{needs}
 use Rattle.addresses.proofs.is_fit.Statement.{statement}
 use Rattle.addresses.proofs.is_fit.Tie as tie
-
-returns : tie.Need-returns
-returns c = let s = c .before .before .before in λ st h d k'. J.fit-turned (s .args .value .now) (s .args .at) (s .args .previous) (s .args .width) st (sym (c .before .below .ensures) ∙ c .if1 .taken)
 
 returns-2 : tie.Need-returns-2
 returns-2 c = let k = c .before .before in let s = k .before .before .before .before in
@@ -32,7 +27,7 @@ is-fit-spec =
     (λ c. search needs)
     (λ c. search needs)
     (λ c κs. search needs)
-    returns
+    (λ c. let s = c .before .before .before in λ st h d k'. J.fit-turned (s .args .value .now) (s .args .at) (s .args .previous) (s .args .width) st (sym (c .before .below .ensures) ∙ c .if1 .taken))
     (λ c κs. search needs)
     returns-2
     (λ c. search needs)

@@ -1,14 +1,7 @@
-use mathlib.Core.Path.{_∙_}
+use Rattle.walks.proofs.Words.{_∙_, needs}
 use Rattle.addresses.proofs.Judging as J
-use borrow.Author.Needs.{needs}
 use Rattle.addresses.proofs.is_low.Statement.{statement}
 use Rattle.addresses.proofs.is_low.Tie as tie
-
-returns : tie.Need-returns
-returns c = let s = c .before .before .before in J.low-other (s .args .value .now) (s .args .at) (s .args .s) (s .args .width) (c .if1 .taken)
-
-returns-2 : tie.Need-returns-2
-returns-2 c = let s = c .before .before .before .before in c .below .ensures ∙ J.low-zero (s .args .value .now) (s .args .at) (s .args .s) (s .args .width) (c .before .if1 .left)
 
 pub is-low-spec : {M : Type 1} → statement M
 is-low-spec =
@@ -18,9 +11,9 @@ is-low-spec =
     (λ c. search needs)
     (λ c. search needs)
     (λ c. search needs)
-    returns
+    (λ c. let s = c .before .before .before in J.low-other (s .args .value .now) (s .args .at) (s .args .s) (s .args .width) (c .if1 .taken))
     (λ c. search needs)
     (λ c. search needs)
     (λ c. search needs)
     (λ c κs. search needs)
-    returns-2)
+    (λ c. let s = c .before .before .before .before in c .below .ensures ∙ J.low-zero (s .args .value .now) (s .args .at) (s .args .s) (s .args .width) (c .before .if1 .left)))

@@ -1,20 +1,13 @@
-use native.Mathlib.Omega.{arith}
-use mathlib.Core.Path.{_≡_, _∙_}
-use Prim.Native.Nat.{_+_, _≤_, _<_}
-use lib.ListN.{length}
+use Rattle.walks.proofs.Words.{arith, _≡_, _∙_, _+_, _≤_, _<_, length, needs}
 use Rattle.addresses.specs.Addresses.{widthOf}
 use Rattle.addresses.proofs.Reading as L
 use Rattle.addresses.proofs.Handing as H
-use borrow.Author.Needs.{needs}
 use Rattle.addresses.proofs.next_address.Statement.{statement}
 use Rattle.addresses.proofs.next_address.Tie as tie
 
 inside : (c : tie.After-known-told) → let s = c .before .before .before .before .before .before in let g = c .before .id .given .0 in (s .args .cursor .at < g .1 .1 .0) × (g .1 .1 .0 + g .1 .1 .1 .0 < length (s .args .value .now)) × (g .1 .1 .1 .0 ≡ widthOf (g .1 .0)) × (g .1 .1 .1 .0 ≤ 16)
 inside c = let s = c .before .before .before .before .before .before in let e = c .before .before .before .entry-at in let g = c .before .id .given .0 in
     L.entry-inside (s .args .value .now) (s .args .cursor .at) (e .result) (e .ensures) (g .0) (g .1 .0) (g .1 .1 .0) (g .1 .1 .1 .0) (c .before .id .given .1)
-
-returns : tie.Need-returns
-returns c = let s = c .before .before .before in c .no-address .ensures ∙ H.address-past (s .args .value .now) (s .args .cursor) (c .before .if1 .taken)
 
 returns-2 : tie.Need-returns-2
 returns-2 c = let e = c .before .before .before in let s = e .before .before .before in
@@ -34,7 +27,7 @@ next-address-spec =
     tie.close
     (tie.spec
     (λ c κs. search needs)
-    returns
+    (λ c. let s = c .before .before .before in c .no-address .ensures ∙ H.address-past (s .args .value .now) (s .args .cursor) (c .before .if1 .taken))
     (λ c κs. search needs)
     (λ c. search needs)
     (λ c κs. search needs)

@@ -1,21 +1,14 @@
-use native.Mathlib.Omega.{arith}
-use mathlib.Core.Path.{_≡_, _∙_}
-use Prim.Native.Nat.{_+_, _≤_}
-use lib.ListN.{length, getD}
+use Rattle.walks.proofs.Words.{arith, _≡_, _∙_, _+_, _≤_, length, getD, needs}
 use Rattle.wire.proofs.Numbers.{bytes-each}
 use Rattle.addresses.specs.Addresses.{widthOf}
 use Rattle.addresses.proofs.Reading as L
 use Rattle.addresses.proofs.Handing as H
-use borrow.Author.Needs.{needs}
 use Rattle.addresses.proofs.next_range.Statement.{statement}
 use Rattle.addresses.proofs.next_range.Tie as tie
 
 inside : (c : tie.After-known-told) → let s = c .before .before .before .before .before .before in let w = c .before .width .given .0 .0 in (s .args .cursor .at + (w + w + 2) ≤ length (s .args .value .now)) × (w ≡ widthOf (getD (s .args .value .now) (s .args .cursor .at) 0)) × (w ≤ 16)
 inside c = let s = c .before .before .before .before .before .before in let e = c .before .before .before .range-at in
     L.range-inside (s .args .value .now) (s .args .cursor .at) (e .result) (e .ensures) (c .before .width .given .0 .0) (c .before .width .given .1)
-
-returns : tie.Need-returns
-returns c = let s = c .before .before .before in c .no-range .ensures ∙ H.range-past (s .args .value .now) (s .args .cursor) (c .before .if1 .taken)
 
 returns-2 : tie.Need-returns-2
 returns-2 c = let e = c .before .before .before in let s = e .before .before .before in
@@ -35,7 +28,7 @@ next-range-spec =
     tie.close
     (tie.spec
     (λ c κs. search needs)
-    returns
+    (λ c. let s = c .before .before .before in c .no-range .ensures ∙ H.range-past (s .args .value .now) (s .args .cursor) (c .before .if1 .taken))
     (λ c κs. search needs)
     (λ c. search needs)
     (λ c κs. search needs)

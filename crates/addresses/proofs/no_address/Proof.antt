@@ -3,9 +3,6 @@ use Rattle.addresses.specs.Handing.{blankAddress, addressAnswer}
 use Rattle.addresses.proofs.no_address.Statement.{statement}
 use Rattle.addresses.proofs.no_address.Tie as tie
 
-returns : tie.Need-returns
-unfolding blankAddress addressAnswer
-returns c = refl
-
 pub no-address-spec : {M : Type 1} → statement M
-no-address-spec = tie.close (tie.spec returns)
+unfolding blankAddress addressAnswer
+no-address-spec = tie.close (tie.spec (λ c. refl))

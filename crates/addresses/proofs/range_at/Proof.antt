@@ -1,9 +1,6 @@
-use native.Mathlib.Omega.{arith}
-use mathlib.Core.Path.{_≡_, sym, _∙_}
-use lib.ListN.{getD}
+use Rattle.walks.proofs.Words.{arith, _≡_, sym, _∙_, getD, needs}
 use Rattle.addresses.specs.Addresses.{widthOf}
 use Rattle.addresses.proofs.Reading as L
-use borrow.Author.Needs.{needs}
 use Rattle.addresses.proofs.range_at.Statement.{statement}
 use Rattle.addresses.proofs.range_at.Tie as tie
 

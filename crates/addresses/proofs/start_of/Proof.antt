@@ -1,5 +1,4 @@
-use borrow.Author.Tests.{eq-eqb, ne-eqb}
-use borrow.Author.Needs.{needs}
+use Rattle.walks.proofs.Words.{eq-eqb, ne-eqb, needs}
 use Rattle.addresses.proofs.start_of.Statement.{statement}
 use Rattle.addresses.proofs.start_of.Tie as tie
 

@@ -1,24 +1,10 @@
-use native.Mathlib.Omega.{arith}
-use mathlib.Core.Path.{_∙_}
+use Rattle.walks.proofs.Words.{arith, _∙_, needs}
 use Rattle.addresses.proofs.Judging as J
-use borrow.Author.Needs.{needs}
 use Rattle.addresses.proofs.well_formed.Statement.{statement}
 use Rattle.addresses.proofs.well_formed.Tie as tie
 
-returns-2 : tie.Need-returns-2
-returns-2 c = let k = c .before in let s = k .before .before .before in c .good-entries .ensures ∙ J.of-assign (s .args .value .now) _ (k .before .if1 .left) (k .if2 .taken)
-
-returns-3 : tie.Need-returns-3
-returns-3 c = let k = c .before .before in let s = k .before .before .before in J.of-request-none (s .args .value .now) _ (k .before .if1 .left) (c .before .if3 .taken) (c .if4 .taken)
-
 returns-4 : tie.Need-returns-4
 returns-4 c = let k = c .before .before .before in let s = k .before .before .before in c .good-entries2 .ensures ∙ J.of-request (s .args .value .now) _ (k .before .if1 .left) (c .before .before .if3 .taken) (omega arith)
-
-returns-5 : tie.Need-returns-5
-returns-5 c = let k = c .before .before .before in let s = k .before .before .before in c .good-ranges .ensures ∙ J.of-route (s .args .value .now) _ (k .before .if1 .left) (c .before .if5 .taken)
-
-returns-6 : tie.Need-returns-6
-returns-6 c = let k = c .before .before in let s = k .before .before .before in J.of-other (s .args .value .now) _ (k .before .if1 .left) (k .if2 .left) (c .before .if3 .left) (c .if5 .left)
 
 pub well-formed-spec : {M : Type 1} → statement M
 well-formed-spec =
@@ -26,10 +12,10 @@ well-formed-spec =
     (tie.spec
     (λ c. J.too-long (c .before .before .args .value .now) _ (c .if1 .taken))
     (λ c κs. search needs)
-    returns-2
-    returns-3
+    (λ c. let k = c .before in let s = k .before .before .before in c .good-entries .ensures ∙ J.of-assign (s .args .value .now) _ (k .before .if1 .left) (k .if2 .taken))
+    (λ c. let k = c .before .before in let s = k .before .before .before in J.of-request-none (s .args .value .now) _ (k .before .if1 .left) (c .before .if3 .taken) (c .if4 .taken))
     (λ c κs. search needs)
     returns-4
     (λ c κs. search needs)
-    returns-5
-    returns-6)
+    (λ c. let k = c .before .before .before in let s = k .before .before .before in c .good-ranges .ensures ∙ J.of-route (s .args .value .now) _ (k .before .if1 .left) (c .before .if5 .taken))
+    (λ c. let k = c .before .before in let s = k .before .before .before in J.of-other (s .args .value .now) _ (k .before .if1 .left) (k .if2 .left) (c .before .if3 .left) (c .if5 .left)))

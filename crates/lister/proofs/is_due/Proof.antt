@@ -1,16 +1,7 @@
-use Prim.Native.Nat.{_-_}
-use native.Mathlib.Omega.{arith}
-use borrow.Author.Tests.{leb-true, leb-false}
+use Rattle.walks.proofs.Words.{_-_, arith, leb-true, leb-false, needs}
 use Rattle.capsule.proofs.Planning.{no-true}
-use borrow.Author.Needs.{needs}
 use Rattle.lister.proofs.is_due.Statement.{statement}
 use Rattle.lister.proofs.is_due.Tie as tie
-
-returns : tie.Need-returns
-returns c = (λ e. no-true e, λ e h. omega arith)
-
-sub-result : tie.Need-sub-result
-sub-result c = search needs
 
 returns-2 : tie.Need-returns-2
 returns-2 c =
@@ -20,4 +11,4 @@ returns-2 c =
     )
 
 pub is-due-spec : {M : Type 1} → statement M
-is-due-spec = tie.close (tie.spec returns sub-result returns-2)
+is-due-spec = tie.close (tie.spec (λ c. (λ e. no-true e, λ e h. omega arith)) (λ c. search needs) returns-2)

@@ -1,6 +1,4 @@
-use native.Mathlib.Omega.{arith}
-use mathlib.Core.Path.{_≡_, refl, _∙_}
-use lib.ListN.{length}
+use Rattle.walks.proofs.Words.{arith, _≡_, refl, _∙_, length}
 use Rattle.lister.specs.Listing.{Within}
 use Rattle.lister.proofs.Listings.{read-ready}
 use Rattle.lister.proofs.list_all.Statement.{statement}

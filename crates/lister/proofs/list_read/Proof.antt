@@ -1,8 +1,5 @@
 use Rattle.lister.proofs.Listings.{Standing, stands-first, all-listed, unrefused, used-more, used-some, stands-took}
-use mathlib.Core.Path.{_∙_, refl}
-use native.Mathlib.Omega.{arith}
-use borrow.Author.Needs.{needs}
-use Prim.Native.Nat.{_-_}
+use Rattle.walks.proofs.Words.{_∙_, arith, needs, _-_}
 use Rattle.wire.specs.Bytes.{Bytes}
 use Rattle.wire.proofs.Numbers.{bytes-each}
 use Rattle.capsule.specs.Calls.{lent}

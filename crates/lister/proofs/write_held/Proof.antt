@@ -1,34 +1,14 @@
-use mathlib.Core.Path.{sym}
-use lib.Seq.{length-take-le}
-use borrow.Author.Needs.{needs}
+use Rattle.walks.proofs.Words.{sym, length-take-le, needs}
 use Rattle.lister.proofs.write_held.Statement.{statement}
 use Rattle.lister.proofs.write_held.Tie as tie
-
-slice-aggregate-write-all : tie.Need-slice-aggregate-write-all
-slice-aggregate-write-all c = sym (length-take-le _ _ (c .before .before .pre))
-
-write-all-requires : tie.Need-write-all-requires
-write-all-requires c κs = search needs
-
-returns : tie.Need-returns
-returns c = search needs
-
-slice-aggregate-fail : tie.Need-slice-aggregate-fail
-slice-aggregate-fail c = search needs
-
-fail-requires : tie.Need-fail-requires
-fail-requires c κs = search needs
-
-returns-2 : tie.Need-returns-2
-returns-2 c = search needs
 
 pub write-held-spec : {M : Type 1} → statement M
 write-held-spec =
     tie.close
     (tie.spec
-    slice-aggregate-write-all
-    write-all-requires
-    returns
-    slice-aggregate-fail
-    fail-requires
-    returns-2)
+    (λ c. sym (length-take-le _ _ (c .before .before .pre)))
+    (λ c κs. search needs)
+    (λ c. search needs)
+    (λ c. search needs)
+    (λ c κs. search needs)
+    (λ c. search needs))

@@ -1,12 +1,6 @@
 -- The cycle: each function's measure is three times the bytes that are left, and the field on top. Assumes nothing.
-use Prim.Native.Nat.{ℕ, _+_, _-_, _*_, _≤_, _<_}
-use mathlib.Core.Path.{_≡_, refl, sym, ap, _∙_}
-use native.Mathlib.Omega.{arith}
-use lib.ListN.{length, drop}
-use denote.Ref.{now}
-use borrow.Author.Needs.{needs}
-use borrow.Fn.Kinds.{In}
-use borrow.Fn.PlainCycle.{Measures, is, falls, and}
+use Rattle.walks.proofs.Words.{ℕ, _+_, _-_, _*_, _≤_, _<_, _≡_, refl, sym, ap, _∙_, arith, length, drop, needs}
+use Rattle.walks.proofs.Walk.{now, In, Measures, is, falls, and}
 use Rattle.wire.specs.declared.varint.Varint.the-variants.{Whole}
 use Rattle.wire.specs.Varint.{readVarint}
 use Rattle.wire.proofs.varint.read_varint.Reads as read-varint-reads

@@ -1,7 +1,6 @@
 -- The two tests are the two conditions of the definition.
-use mathlib.Core.Path.{sym, _∙_}
+use Rattle.walks.proofs.Words.{sym, _∙_, needs}
 use Rattle.look.specs.Looking.{bufferOf}
-use borrow.Author.Needs.{needs}
 use Rattle.look.proofs.buffer_of.Statement.{statement}
 use Rattle.look.proofs.buffer_of.Tie as tie
 

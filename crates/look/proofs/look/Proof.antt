@@ -1,10 +1,8 @@
 -- The test is the definition's; what is left is `place_of`.
-use mathlib.Core.Path.{sym, _∙_}
-use borrow.Author.Tests.{not-true, not-false}
+use Rattle.walks.proofs.Words.{sym, _∙_, not-true, not-false, needs}
 use Rattle.wire.proofs.Parts.{parted}
 use Rattle.capsule.specs.Reader.{isOpening, isMakeablePhase, isMakeable}
 use Rattle.look.specs.Looking.{sightOf, lookOf}
-use borrow.Author.Needs.{needs}
 use Rattle.look.proofs.look.Statement.{statement}
 use Rattle.look.proofs.look.Tie as tie
 

@@ -1,12 +1,9 @@
 -- One answer for each phase; that a makeable value has no more bytes to come than its extent is `makeable-value`.
-use mathlib.Core.Path.{_≡_, subst}
-use mathlib.Core.Bool.{true}
+use Rattle.walks.proofs.Words.{_≡_, subst, true, eq-eqb, ne-eqb, needs}
 use Rattle.capsule.specs.declared.reader.Phase.{Phase}
 use Rattle.capsule.specs.Reader.{isMakeablePhase}
 use Rattle.capsule.proofs.Planning.{makeable-value}
-use borrow.Author.Tests.{eq-eqb, ne-eqb}
 use Rattle.look.specs.Looking.{placeOf}
-use borrow.Author.Needs.{needs}
 use Rattle.look.proofs.place_of.Statement.{statement}
 use Rattle.look.proofs.place_of.Tie as tie
 

@@ -1,7 +1,4 @@
-use native.Mathlib.Omega.{arith}
-use borrow.Author.Needs.{needs}
-use Prim.Native.Nat.{_≤_, _-_}
-use lib.ListN.{length}
+use Rattle.walks.proofs.Words.{arith, needs, _≤_, _-_, length}
 use Rattle.run_bench_cases.proofs.read.Statement.{statement}
 use Rattle.run_bench_cases.proofs.read.Tie as tie
 

@@ -1,7 +1,4 @@
-use native.Mathlib.Omega.{arith}
-use borrow.Author.Needs.{needs}
-use Prim.Native.Nat.{suc, _≤_, _-_}
-use lib.ListN.{length}
+use Rattle.walks.proofs.Words.{arith, needs, suc, _≤_, _-_, length}
 use Rattle.run_in_place.proofs.cut_everywhere.Statement.{statement}
 use Rattle.run_in_place.proofs.cut_everywhere.Tie as tie
 

@@ -1,8 +1,4 @@
-use native.Mathlib.Omega.{arith}
-use borrow.Author.Needs.{needs}
-use mathlib.Core.Path.{_≡_}
-use Prim.Native.Nat.{_≤_, _-_}
-use lib.ListN.{length}
+use Rattle.walks.proofs.Words.{arith, needs, _≡_, _≤_, _-_, length}
 use Rattle.run_in_place.proofs.read.Statement.{statement}
 use Rattle.run_in_place.proofs.read.Tie as tie
 

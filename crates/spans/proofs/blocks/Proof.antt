@@ -1,12 +1,4 @@
-use borrow.Author.Needs.{needs}
-use native.Mathlib.Omega.{arith}
-use Prim.Native.Nat.{ℕ, _+_, _-_, _≤_}
-use mathlib.Core.Path.{_≡_, refl, sym, ap, _∙_}
-use lib.ListN.{length}
-use lib.ListN.{drop}
-use mathlib.Core.List.{List}
-use native.Mathlib.Nat.{le-antisymm}
-use lib.Seq.{paste, paste-zero, drop-drop}
+use Rattle.walks.proofs.Words.{needs, arith, ℕ, _+_, _-_, _≤_, _≡_, refl, sym, ap, _∙_, length, drop, List, le-antisymm, paste, paste-zero, drop-drop}
 use Rattle.spans.proofs.Laws.{more, room}
 use Rattle.spans.proofs.blocks.Statement.{statement}
 use Rattle.spans.proofs.blocks.Tie as tie

@@ -1,12 +1,4 @@
-use borrow.Author.Needs.{needs}
-use native.Mathlib.Omega.{arith}
-use Prim.Native.Nat.{ℕ, _-_, _≤_}
-use mathlib.Core.Path.{_≡_, sym, ap, _∙_}
-use lib.ListN.{length, length-set}
-use lib.ListN.{take, drop}
-use mathlib.Core.List.{List}
-use native.Mathlib.Nat.{le-antisymm}
-use lib.Seq.{paste, paste-zero, getD-drop}
+use Rattle.walks.proofs.Words.{needs, arith, ℕ, _-_, _≤_, _≡_, sym, ap, _∙_, length, length-set, take, drop, List, le-antisymm, paste, paste-zero, getD-drop}
 use Rattle.spans.proofs.Laws.{turn0, within, front, room}
 use Rattle.spans.proofs.fill.Statement.{statement}
 use Rattle.spans.proofs.fill.Tie as tie

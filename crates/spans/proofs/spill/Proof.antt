@@ -1,10 +1,4 @@
-use borrow.Author.Needs.{needs}
-use native.Mathlib.Omega.{arith}
-use Prim.Native.Nat.{ℕ, _-_, _≤_}
-use mathlib.Core.Path.{_≡_, refl, ap, _∙_}
-use lib.ListN.{length, length-set}
-use native.Mathlib.Nat.{le-antisymm}
-use lib.Seq.{paste, paste-zero}
+use Rattle.walks.proofs.Words.{needs, arith, ℕ, _-_, _≤_, _≡_, refl, ap, _∙_, length, length-set, le-antisymm, paste, paste-zero}
 use Rattle.spans.proofs.Laws.{turn}
 use Rattle.spans.proofs.spill.Statement.{statement}
 use Rattle.spans.proofs.spill.Tie as tie

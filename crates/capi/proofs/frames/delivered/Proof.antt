@@ -1,11 +1,10 @@
 -- `delivered`: a varint that was read lies in the frame. Assumes nothing.
-use mathlib.Core.Path.{sym, _∙_}
+use Rattle.walks.proofs.Words.{sym, _∙_, needs}
 use Rattle.wire.proofs.Reading.{reads}
 use Rattle.datagram.specs.Judging.{ruleOf, quarterIn, placeIn}
 use Rattle.http.specs.Ties.{judgedError}
 use Rattle.capi.specs.Numbers.{errorNumber}
 use Rattle.capi.specs.Frames.{orZero, deliveredAnswer}
-use borrow.Author.Needs.{needs}
 use Rattle.capi.proofs.frames.delivered.Statement.{statement}
 use Rattle.capi.proofs.frames.delivered.Tie as tie
 

@@ -1,27 +1,12 @@
 -- `mrz_judge` meets its contract, by a walk of its code: the rows, the two limits and the frame go to `judge`, and its answer goes with the frame to `judged_answer`. Assumes nothing.
-use mathlib.Core.Path.{_≡_, refl, ap, _∙_}
-use mathlib.Core.List.{List, [], _∷_}
-use mir.Syntax.{named}
-use base.Fml.{flft}
-use contract.Lifetimes.{Lfts, toks}
-use contract.Running.{givenOf, tables}
-use types.Kit.{‵, raw, _⊛_, _$_, !, move, use1, recast, split, join, fsplit, fjoin}
-use types.Part.{whole, sub, look-in}
-use types.Run.{look, init, stop, fld, from, load, and-then, no-more, land, enter, alloc1, alloc0, params1, pass1, pass0, free0}
-use denote.Builtin.{u8}
-use denote.Laws.{Is, shows}
-use denote.Ref.{now}
-use denote.RattleType.{Denots}
-use denote.Signature.{plain, typesAt}
-use denote.Slice.{ShrSlice, shr-slice-copy, slice-vals}
-use denote.Steps.{facts, nothing}
+use Rattle.walks.proofs.Words.{_≡_, refl, ap, _∙_, List, [], _∷_}
+use Rattle.walks.proofs.Walk.{named, flft, Lfts, toks, givenOf, tables, ‵, raw, _⊛_, _$_, !, move, use1, recast, split, join, fsplit, fjoin, whole, sub, look-in, look, init, stop, fld, from, load, and-then, no-more, land, enter, alloc1, alloc0, params1, pass1, pass0, free0, u8, Is, shows, now, Denots, plain, typesAt, ShrSlice, shr-slice-copy, slice-vals, facts, nothing, cited}
 use denote.Struct.Laws as LL
 use denote.Enum.Laws as EL
-use denote.Triple.Table.{cited}
 use Rattle.streams.proofs.Answering.{rows}
 use Rattle.walks.proofs.Calling.{Fact, calls-ensuring}
 use Rattle.walks.proofs.Passing.{Param, datum, bytes, slots, values, passing, taking, takes-last, clears, ends-owning, meets-passing}
-use Rattle.datagram.specs.Judging.{judgedOf}
+use Rattle.datagram.specs.Judging.{judgedOf, Judges}
 use Rattle.datagram.proofs.judge.Judged as J
 use Rattle.datagram.proofs.judge.Judged.Laws as J′
 use Rattle.datagram.proofs.judge.judge.Symbol as judge-def
@@ -47,8 +32,8 @@ given = rows ∷ datum L.the-row (LL.vals L.the-type L′.the-laws) (LL.tells L.
 abbrev passed : (κs : Lfts 2) → Denots (typesAt (slots given) κs) → Denots (typesAt (slots (rows ∷ framed)) κs)
 passed κs a = (a .0, (a .1 .0 .«stream_limit», (a .1 .0 .«datagram_limit», a .1 .1)))
 
-abbrev Judges : Fact (passing (rows ∷ framed) (plain (λ _. J.the-row)))
-Judges κs a r e = r ≡ judgedOf (now (a .0)) (a .1 .0) (a .1 .1 .0) (now (a .1 .1 .1 .0))
+abbrev Judging : Fact (passing (rows ∷ framed) (plain (λ _. J.the-row)))
+Judging κs a r e = Judges (now (a .0)) (a .1 .0) (a .1 .1 .0) (now (a .1 .1 .1 .0)) r
 
 abbrev Said : Fact (taking J.the-row 1 (slots (bytes 0 tt ∷ [])) (plain (λ _. Z.the-row)))
 Said κs a r e = r ≡ judgedAnswer (now (a .1 .0)) (a .0)
@@ -72,7 +57,7 @@ mrz-judge-spec 𝓤 H 𝓜 𝓖 𝓡 = meets-passing given (plain (λ _. Z.the-r
     fsplit ! $ use1 W (‵ Frame ⊛ ‵ Frame) (shr-slice-copy 𝓤 H A W (named 1) (κs .1 .0) u8 .twice frame _) $ split ! $
     move ! (0 ∷ 2 ∷ []) $ fjoin ! $ worded ! (limits .«datagram_limit») (are .1 .0) $ worded ! (limits .«stream_limit») (are .0) $ move ! (2 ∷ 0 ∷ []) $ fjoin ! $
     -- [what is passed; the frame; the tokens; the locals, the last first]
-    move ! (2 ∷ 0 ∷ []) $ calls-ensuring ! fm (passing (rows ∷ framed) (plain (λ _. J.the-row))) Judges (cited 𝓤 H _ 𝓜 𝓡 code.env #judge judge-def.routine code.calls-datagram·judge·judge (judge-thm.met 𝓤 H 𝓜 𝓖 𝓡)) κs qs tt (passed κs a) (values κs (rows ∷ framed) (passed κs a)) refl
+    move ! (2 ∷ 0 ∷ []) $ calls-ensuring ! fm (passing (rows ∷ framed) (plain (λ _. J.the-row))) Judging (cited 𝓤 H _ 𝓜 𝓡 code.env #judge judge-def.routine code.calls-datagram·judge·judge (judge-thm.met 𝓤 H 𝓜 𝓖 𝓡)) κs qs tt (passed κs a) (values κs (rows ∷ framed) (passed κs a)) refl
     (and-then ! (load ! (from ! (stop !)) (look ! 8 refl)) (and-then ! (load ! (from ! (fld ! refl (stop !))) (look-in ! 6 (sub ! 0 refl (whole !)))) (and-then ! (load ! (from ! (fld ! refl (stop !))) (look-in ! 6 (sub ! 1 refl (whole !)))) (and-then ! (load ! (from ! (stop !)) (look ! 4 refl)) (no-more !))))) (λ v j ws e j-is.
     land ! (from ! (stop !)) (init ! 3 refl (EL.lawful J.the-type J′.the-laws 𝓤 H A W tt .typed j _ j-is .0)) $
     recast W (‵ (flft (κs .0) (qs .0)) ⊛ raw (toks 𝓤 A 1 (κs .1) (qs .1))) refl $ split ! $ nothing ! $ move ! (4 ∷ 0 ∷ []) $ fjoin ! $
@@ -82,4 +67,4 @@ mrz-judge-spec 𝓤 H 𝓜 𝓖 𝓡 = meets-passing given (plain (λ _. Z.the-r
     move ! (11 ∷ 12 ∷ 9 ∷ 10 ∷ 7 ∷ 8 ∷ 5 ∷ 6 ∷ []) $ clears ! $ clears ! $ clears ! $ clears ! $ free0 ! $
     -- [the frame's token; …; the answer; the rows' token]
     move ! (3 ∷ 0 ∷ []) $ join ! $ nothing ! $ nothing ! $ fjoin ! $ nothing ! $ fjoin ! $ nothing ! $ fjoin ! $ move ! (1 ∷ 0 ∷ 3 ∷ []) $
-    ends-owning given (plain (λ _. Z.the-row)) Claimed 𝓤 H A W κs qs a ! u z (tt, (tt, (tt, tt))) refl (e′ ∙ ap (judgedAnswer (now frame)) e))))))))))
+    ends-owning given (plain (λ _. Z.the-row)) Claimed 𝓤 H A W κs qs a ! u z (tt, (tt, (tt, tt))) refl (e′ ∙ ap (judgedAnswer (now frame)) (e .answer)))))))))))

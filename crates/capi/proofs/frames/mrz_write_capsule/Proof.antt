@@ -1,15 +1,6 @@
 -- `mrz_write_capsule` meets its contract, by a walk of its code: all that came in goes to `write_capsule`, and its answer is made numbers. Assumes nothing.
-use mathlib.Core.Path.{_≡_, refl}
-use mathlib.Core.List.{List, [], _∷_}
-use contract.Lifetimes.{Lfts}
-use contract.Running.{givenOf, tables}
-use types.Kit.{_$_, !, move}
-use types.Run.{look, init, stop, from, load, and-then, no-more, enter, alloc1, alloc0, params1, pass1, pass0, free0}
-use lib.ListN.{length}
-use denote.Ref.{now}
-use denote.RattleType.{Denots}
-use denote.Signature.{plain, typesAt}
-use denote.Triple.Table.{cited}
+use Rattle.walks.proofs.Words.{_≡_, refl, List, [], _∷_, length}
+use Rattle.walks.proofs.Walk.{Lfts, givenOf, tables, _$_, !, move, look, init, stop, from, load, and-then, no-more, enter, alloc1, alloc0, params1, pass1, pass0, free0, now, Denots, plain, typesAt, cited}
 use Rattle.wire.specs.Writing.{writing}
 use Rattle.streams.proofs.Answering.{identifier, rows}
 use Rattle.walks.proofs.Calling.{Fact}

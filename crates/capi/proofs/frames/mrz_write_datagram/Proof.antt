@@ -1,7 +1,6 @@
 -- `mrz_write_datagram`: what `write_datagram` did, in numbers. Assumes nothing.
-use mathlib.Core.Path.{ap}
+use Rattle.walks.proofs.Words.{ap, needs}
 use Rattle.capi.specs.Varint.{wroteBy}
-use borrow.Author.Needs.{needs}
 use Rattle.capi.proofs.frames.mrz_write_datagram.Statement.{statement}
 use Rattle.capi.proofs.frames.mrz_write_datagram.Tie as tie
 

@@ -1,7 +1,6 @@
 -- `mrz_write_datagram_header`: what `write_datagram_header` did, in numbers. Assumes nothing.
-use mathlib.Core.Path.{ap}
+use Rattle.walks.proofs.Words.{ap, needs}
 use Rattle.capi.specs.Varint.{wroteBy}
-use borrow.Author.Needs.{needs}
 use Rattle.capi.proofs.frames.mrz_write_datagram_header.Statement.{statement}
 use Rattle.capi.proofs.frames.mrz_write_datagram_header.Tie as tie
 

@@ -1,10 +1,6 @@
 -- `mrz_write_frame` meets its contract, by the walk of `Sending`. Assumes nothing.
-use mathlib.Core.Path.{refl}
-use mir.Syntax.{named, imm, w8, tyInt, tyRef}
-use lib.ListN.{length}
-use denote.Ref.{now}
-use denote.Slice.{sliceTy, sliceVal}
-use denote.Triple.Table.{cited}
+use Rattle.walks.proofs.Words.{refl, length}
+use Rattle.walks.proofs.Walk.{named, imm, w8, tyInt, tyRef, now, sliceTy, sliceVal, cited}
 use Rattle.walks.proofs.Passing.{bytes}
 use Rattle.datagram.specs.Sending.{writeFrame}
 use Rattle.datagram.proofs.write.write_frame.Symbol as write-def

@@ -1,8 +1,6 @@
 -- `mrz_write_frame_header` meets its contract, by the walk of `Sending`. Assumes nothing.
 use mathlib.Core.Path.{refl}
-use mir.Syntax.{w64, tyInt}
-use mir.Val.{vint}
-use denote.Triple.Table.{cited}
+use Rattle.walks.proofs.Walk.{w64, tyInt, vint, cited}
 use Rattle.walks.proofs.Passing.{word}
 use Rattle.datagram.specs.Sending.{writeFrameHeader}
 use Rattle.datagram.proofs.write.write_frame_header.Symbol as write-def

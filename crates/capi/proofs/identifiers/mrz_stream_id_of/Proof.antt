@@ -1,7 +1,6 @@
 -- One answer for each case of `StreamOf`.
-use mathlib.Core.Path.{sym, _∙_}
+use Rattle.walks.proofs.Words.{sym, _∙_, needs}
 use Rattle.capi.specs.Identifiers.{streamAnswer}
-use borrow.Author.Needs.{needs}
 use Rattle.capi.proofs.identifiers.mrz_stream_id_of.Statement.{statement}
 use Rattle.capi.proofs.identifiers.mrz_stream_id_of.Tie as tie
 

@@ -3,13 +3,6 @@ use Rattle.capi.specs.Numbers.{roleOf}
 use Rattle.capi.proofs.numbers.role_of.Statement.{statement}
 use Rattle.capi.proofs.numbers.role_of.Tie as tie
 
-returns : tie.Need-returns
-unfolding roleOf
-returns c = simp (eq-eqb _ _ (c .if1 .taken))
-
-returns-2 : tie.Need-returns-2
-unfolding roleOf
-returns-2 c = simp (ne-eqb _ _ (c .if1 .left))
-
 pub role-of-spec : {M : Type 1} → statement M
-role-of-spec = tie.close (tie.spec returns returns-2)
+unfolding roleOf
+role-of-spec = tie.close (tie.spec (λ c. simp (eq-eqb _ _ (c .if1 .taken))) (λ c. simp (ne-eqb _ _ (c .if1 .left))))

@@ -5,19 +5,6 @@ use borrow.Author.Needs.{needs}
 use Rattle.capi.proofs.one_shot.ending_number.Statement.{statement}
 use Rattle.capi.proofs.one_shot.ending_number.Tie as tie
 
-enum-told : tie.Need-enum-told
-enum-told c = search needs
-
-enum-told-2 : tie.Need-enum-told-2
-enum-told-2 c = search needs
-
-returns : tie.Need-returns
-unfolding endingNumber endNumber asClosed
-returns c = search needs
-
-returns-2 : tie.Need-returns-2
-unfolding endingNumber endNumber asClosed
-returns-2 c = search needs
-
 pub ending-number-spec : {M : Type 1} → statement M
-ending-number-spec = tie.close (tie.spec enum-told enum-told-2 returns returns-2)
+unfolding endingNumber endNumber asClosed
+ending-number-spec = tie.close (tie.spec (λ c. search needs) (λ c. search needs) (λ c. search needs) (λ c. search needs))

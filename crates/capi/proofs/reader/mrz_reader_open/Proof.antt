@@ -1,7 +1,6 @@
 -- What `Reader::open` answers, in numbers.
-use mathlib.Core.Path.{sym, _∙_}
+use Rattle.walks.proofs.Words.{sym, _∙_, needs}
 use Rattle.capi.specs.Reader.{openedAt, openWords}
-use borrow.Author.Needs.{needs}
 use Rattle.capi.proofs.reader.mrz_reader_open.Statement.{statement}
 use Rattle.capi.proofs.reader.mrz_reader_open.Tie as tie
 

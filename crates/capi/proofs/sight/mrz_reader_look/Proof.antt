@@ -1,7 +1,6 @@
 -- What was read is looked at.
-use mathlib.Core.Path.{sym, ap, _∙_}
+use Rattle.walks.proofs.Words.{sym, ap, _∙_, needs}
 use Rattle.capi.specs.Sight.{lookedAnswer, lookWords}
-use borrow.Author.Needs.{needs}
 use Rattle.capi.proofs.sight.mrz_reader_look.Statement.{statement}
 use Rattle.capi.proofs.sight.mrz_reader_look.Tie as tie
 

@@ -1,6 +1,5 @@
 -- `mrz_stream_close` meets its contract, by the walk of `Exporting`. Assumes nothing.
-use mathlib.Core.Path.{_≡_}
-use Prim.Native.Nat.{ℕ}
+use Rattle.walks.proofs.Words.{_≡_, ℕ}
 use denote.Triple.Table.{cited}
 use Rattle.streams.specs.declared.record.Side.{Side}
 use Rattle.streams.specs.declared.table.Closing.{Closing}

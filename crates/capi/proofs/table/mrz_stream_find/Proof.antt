@@ -1,16 +1,7 @@
 -- `mrz_stream_find` meets its contract, by a walk of its code: the rows and the stream ID go to `find_stream`, and its answer is made numbers. Assumes nothing.
-use mathlib.Core.Path.{_≡_, refl, ap, _∙_}
-use mathlib.Core.List.{List, [], _∷_}
-use contract.Lifetimes.{Lfts}
-use contract.Running.{givenOf, tables}
-use types.Kit.{_$_, !, move}
-use types.Part.{agg}
-use types.Run.{look, init, stop, from, load, and-then, no-more, assigns, enter, alloc1, alloc0, params1, pass1, pass0, free0}
-use denote.RattleType.{Denots}
-use denote.Ref.{now}
-use denote.Signature.{plain, typesAt}
+use Rattle.walks.proofs.Words.{_≡_, refl, ap, _∙_, List, [], _∷_}
+use Rattle.walks.proofs.Walk.{Lfts, givenOf, tables, _$_, !, move, agg, look, init, stop, from, load, and-then, no-more, assigns, enter, alloc1, alloc0, params1, pass1, pass0, free0, Denots, now, plain, typesAt, cited}
 use denote.Struct.Laws as LL
-use denote.Triple.Table.{cited}
 use Rattle.wire.proofs.units.StreamId as N
 use Rattle.wire.proofs.units.StreamId.Laws as N′
 use Rattle.streams.specs.Tables.{standingOf}

@@ -1,7 +1,5 @@
 -- `mrz_stream_open` meets its contract, by the walk of `Exporting`. Assumes nothing.
-use mathlib.Core.Path.{_≡_}
-use mathlib.Core.Bool.{Bool}
-use Prim.Native.Nat.{ℕ}
+use Rattle.walks.proofs.Words.{_≡_, Bool, ℕ}
 use denote.Triple.Table.{cited}
 use Rattle.streams.specs.declared.table.Opening.{Opening}
 use Rattle.streams.specs.Tables.{Table, openingOf, tableOpened}

@@ -3,9 +3,6 @@ use Rattle.capi.specs.Words.{draftIn}
 use Rattle.capi.proofs.words.draft_in.Statement.{statement}
 use Rattle.capi.proofs.words.draft_in.Tie as tie
 
-returns : tie.Need-returns
-unfolding draftIn
-returns c = search needs
-
 pub draft-in-spec : {M : Type 1} → statement M
-draft-in-spec = tie.close (tie.spec returns)
+unfolding draftIn
+draft-in-spec = tie.close (tie.spec (λ c. search needs))

@@ -1,9 +1,7 @@
 -- What passes the four tests is read by its phase: `reads-so`, `reads-not`.
-use mathlib.Core.Path.{sym, _∙_}
-use native.Mathlib.Omega.{arith}
+use Rattle.walks.proofs.Words.{sym, _∙_, arith, needs}
 use Rattle.capi.specs.Words.{readerMark, withPhase}
 use Rattle.capi.proofs.StoredForm.{reads-so, reads-not}
-use borrow.Author.Needs.{needs}
 use Rattle.capi.proofs.words.load.Statement.{statement}
 use Rattle.capi.proofs.words.load.Tie as tie
 

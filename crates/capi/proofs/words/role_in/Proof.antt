@@ -1,7 +1,6 @@
 -- The test is the definition's.
 use borrow.Author.Tests.{le-leb, lt-leb}
 use Rattle.capi.specs.Words.{readerMark, roleIn}
-use borrow.Author.Needs.{needs}
 use Rattle.capi.proofs.words.role_in.Statement.{statement}
 use Rattle.capi.proofs.words.role_in.Tie as tie
 

@@ -1,25 +1,9 @@
-use mathlib.Core.Path.{sym, _∙_}
-use native.Mathlib.Nat.{add-zero}
+use Rattle.walks.proofs.Words.{sym, _∙_, add-zero, needs}
 use Rattle.capi.specs.Numbers.{bitOf}
 use Rattle.capi.specs.Words.{settingsNumber}
-use borrow.Author.Needs.{needs}
 use Rattle.capi.proofs.words.settings_number.Statement.{statement}
 use Rattle.capi.proofs.words.settings_number.Tie as tie
 
-returns : tie.Need-returns
-unfolding settingsNumber bitOf
-returns c = rw (c .before .if1 .taken, c .if2 .taken)
-
-returns-2 : tie.Need-returns-2
-unfolding settingsNumber bitOf
-returns-2 c = rw (c .before .if1 .taken, c .if2 .left)
-
-bit-of-requires : tie.Need-bit-of-requires
-bit-of-requires c κs = search needs
-
-returns-3 : tie.Need-returns-3
-unfolding settingsNumber bitOf
-returns-3 c = rw (c .before .if1 .left) (c .bit-of .ensures ∙ sym (add-zero _))
-
 pub settings-number-spec : {M : Type 1} → statement M
-settings-number-spec = tie.close (tie.spec returns returns-2 bit-of-requires returns-3)
+unfolding settingsNumber bitOf
+settings-number-spec = tie.close (tie.spec (λ c. rw (c .before .if1 .taken, c .if2 .taken)) (λ c. rw (c .before .if1 .taken, c .if2 .left)) (λ c κs. search needs) (λ c. rw (c .before .if1 .left) (c .bit-of .ensures ∙ sym (add-zero _))))

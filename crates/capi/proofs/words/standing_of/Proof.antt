@@ -1,8 +1,7 @@
 -- The tests of each way are those of `stands-within` and `stands-between`.
-use native.Mathlib.Omega.{arith}
+use Rattle.walks.proofs.Words.{arith, needs}
 use Rattle.capi.specs.Words.{readerMark}
 use Rattle.capi.proofs.ShortWords.{stands-other, stands-between, stands-within}
-use borrow.Author.Needs.{needs}
 use Rattle.capi.proofs.words.standing_of.Statement.{statement}
 use Rattle.capi.proofs.words.standing_of.Tie as tie
 

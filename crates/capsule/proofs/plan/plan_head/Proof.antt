@@ -3,9 +3,6 @@ use Rattle.capsule.specs.Reader.{planHead}
 use Rattle.capsule.proofs.plan.plan_head.Statement.{statement}
 use Rattle.capsule.proofs.plan.plan_head.Tie as tie
 
-returns : tie.Need-returns
-unfolding planHead
-returns c = refl
-
 pub plan-head-spec : {M : Type 1} → statement M
-plan-head-spec = tie.close (tie.spec returns)
+unfolding planHead
+plan-head-spec = tie.close (tie.spec (λ c. refl))

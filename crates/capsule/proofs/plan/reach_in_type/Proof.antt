@@ -1,32 +1,7 @@
-use mathlib.Core.Path.{_≡_, sym, subst, _∙_}
+use Rattle.walks.proofs.Words.{sym, _∙_, needs}
 use Rattle.capsule.proofs.Reaching.{first-reached}
-use borrow.Author.Needs.{needs}
 use Rattle.capsule.proofs.plan.reach_in_type.Statement.{statement}
 use Rattle.capsule.proofs.plan.reach_in_type.Tie as tie
-
--- src/plan.rt:190:11
-first-header-requires : tie.Need-first-header-requires
-first-header-requires c κs = search needs
-
--- src/plan.rt:191:25
-enum-told : tie.Need-enum-told
-enum-told c = search needs
-
--- src/plan.rt:191:25
-reach-by-type-requires : tie.Need-reach-by-type-requires
-reach-by-type-requires c κs = search needs
-
--- src/plan.rt:192:25
-enum-known-at : tie.Need-enum-known-at
-enum-known-at c = search needs
-
--- src/plan.rt:193:17
-extent-requires : tie.Need-extent-requires
-extent-requires c κs = search needs
-
--- src/plan.rt:186:1
-returns : tie.Need-returns
-returns c = search needs
 
 -- src/plan.rt:186:1
 returns-2 : tie.Need-returns-2
@@ -36,10 +11,10 @@ pub reach-in-type-spec : {M : Type 1} → statement M
 reach-in-type-spec =
     tie.close
     (tie.spec
-    first-header-requires
-    enum-told
-    reach-by-type-requires
-    enum-known-at
-    extent-requires
-    returns
+    (λ c κs. search needs)
+    (λ c. search needs)
+    (λ c κs. search needs)
+    (λ c. search needs)
+    (λ c κs. search needs)
+    (λ c. search needs)
     returns-2)

@@ -1,7 +1,6 @@
 -- `asked`, by what is read at the front of the frame. Assumes nothing.
-use mathlib.Core.Path.{sym, _∙_}
+use Rattle.walks.proofs.Words.{sym, _∙_, needs}
 use Rattle.datagram.specs.Code.{askedIn}
-use borrow.Author.Needs.{needs}
 use Rattle.datagram.proofs.judge.asked.Statement.{statement}
 use Rattle.datagram.proofs.judge.asked.Tie as tie
 

@@ -1,9 +1,7 @@
 -- `judge_by`, by what was looked up, the two limits and what is read at the front of the frame. Assumes nothing.
-use mathlib.Core.Path.{sym, _∙_}
-use borrow.Author.Tests.{le-leb, lt-leb}
+use Rattle.walks.proofs.Words.{sym, _∙_, le-leb, lt-leb, needs}
 use Rattle.wire.proofs.Reading.{reads}
 use Rattle.datagram.specs.Code.{judgedReadBy, judgedBy}
-use borrow.Author.Needs.{needs}
 use Rattle.datagram.proofs.judge.judge_by.Statement.{statement}
 use Rattle.datagram.proofs.judge.judge_by.Tie as tie
 

@@ -1,8 +1,6 @@
 -- `judge_quarter`, by the two comparisons. Assumes nothing.
-use native.Mathlib.Omega.{arith}
-use borrow.Author.Tests.{le-leb, lt-leb, lt-ltb, le-ltb}
+use Rattle.walks.proofs.Words.{arith, le-leb, lt-leb, lt-ltb, le-ltb, needs}
 use Rattle.wire.specs.Units.{largestQuarter}
-use borrow.Author.Needs.{needs}
 use Rattle.datagram.proofs.judge.judge_quarter.Statement.{statement}
 use Rattle.datagram.proofs.judge.judge_quarter.Tie as tie
 

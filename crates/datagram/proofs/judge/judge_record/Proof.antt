@@ -1,8 +1,6 @@
 -- `judge_record`, by two flags and the limit. Assumes nothing.
-use mathlib.Core.Path.{sym, _∙_}
-use borrow.Author.Tests.{not-true, not-false, le-leb, lt-leb}
+use Rattle.walks.proofs.Words.{sym, _∙_, not-true, not-false, le-leb, lt-leb, needs}
 use Rattle.datagram.specs.Judging.{judgedRecord}
-use borrow.Author.Needs.{needs}
 use Rattle.datagram.proofs.judge.judge_record.Statement.{statement}
 use Rattle.datagram.proofs.judge.judge_record.Tie as tie
 

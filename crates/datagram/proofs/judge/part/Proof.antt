@@ -1,11 +1,7 @@
 -- `part`, by whether it is delivered: the quarter that was read lies inside the frame. Assumes nothing.
-use mathlib.Core.Path.{sym, _∙_}
-use Prim.Native.Nat.{_≤_}
-use lib.ListN.{length}
-use borrow.Author.Tests.{not-true, not-false}
+use Rattle.walks.proofs.Words.{sym, _∙_, _≤_, length, not-true, not-false, needs}
 use Rattle.wire.proofs.Reading.{reads}
 use Rattle.datagram.proofs.Deciding.{part-none, part-short, part-rest}
-use borrow.Author.Needs.{needs}
 use Rattle.datagram.proofs.judge.part.Statement.{statement}
 use Rattle.datagram.proofs.judge.part.Tie as tie
 

@@ -1,12 +1,6 @@
 -- `payload` meets its contract, by the walk of `Framing` and the law `judged-by-lookup`. Assumes nothing.
 use mathlib.Core.Path.{_≡_, refl, ap, _∙_}
-use mir.Syntax.{named, imm, tyRef}
-use denote.Builtin.{u8}
-use denote.Memory.{pointee}
-use denote.Ref.{now}
-use denote.Slice.{sliceTy, shr-slice-lawful}
-use denote.Triple.Table.{cited}
-use contract.Running.{givenOf}
+use Rattle.walks.proofs.Walk.{named, imm, tyRef, u8, pointee, now, sliceTy, shr-slice-lawful, cited, givenOf}
 use Rattle.streams.specs.declared.table.Lookup.{Lookup}
 use Rattle.streams.proofs.table.look_up.Symbol as look-def
 use Rattle.streams.proofs.table.look_up.Symbol.{name as #look-up}

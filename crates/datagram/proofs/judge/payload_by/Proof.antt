@@ -1,10 +1,9 @@
 -- `payload_by`: the part that `judge_by` delivers. Assumes nothing.
-use mathlib.Core.Path.{ap, _∙_}
+use Rattle.walks.proofs.Words.{ap, _∙_, needs}
 use Rattle.wire.specs.Varint.{readVarint}
 use Rattle.datagram.specs.declared.judge.Judged.{Judged}
 use Rattle.datagram.specs.Judging.{ifDelivered, afterQuarter}
 use Rattle.datagram.specs.Code.{payloadBy}
-use borrow.Author.Needs.{needs}
 use Rattle.datagram.proofs.judge.payload_by.Statement.{statement}
 use Rattle.datagram.proofs.judge.payload_by.Tie as tie
 

@@ -1,9 +1,8 @@
 -- `capsule_by`, by whether the stream may be sent to. Assumes nothing.
-use mathlib.Core.Path.{sym, _∙_}
+use Rattle.walks.proofs.Words.{sym, _∙_, needs}
 use Rattle.wire.specs.Writing.{refuses}
 use Rattle.datagram.specs.Sending.{capsuleWritten}
 use Rattle.datagram.specs.Code.{capsuleBy}
-use borrow.Author.Needs.{needs}
 use Rattle.datagram.proofs.write.capsule_by.Statement.{statement}
 use Rattle.datagram.proofs.write.capsule_by.Tie as tie
 

@@ -1,10 +1,9 @@
 -- `frame_header_by`, by whether the stream may be sent to: its quarter is one then. Assumes nothing.
-use mathlib.Core.Path.{sym, _∙_}
+use Rattle.walks.proofs.Words.{sym, _∙_, needs}
 use Rattle.wire.specs.Writing.{refuses}
 use Rattle.datagram.specs.Sending.{frameHeaderWritten}
 use Rattle.datagram.specs.Code.{frameHeaderBy}
 use Rattle.datagram.proofs.Deciding.{sent-bounded}
-use borrow.Author.Needs.{needs}
 use Rattle.datagram.proofs.write.frame_header_by.Statement.{statement}
 use Rattle.datagram.proofs.write.frame_header_by.Tie as tie
 

@@ -1,11 +1,9 @@
 -- `put_frame`, by the length of the payload, the path size and the room. Assumes nothing.
-use native.Mathlib.Omega.{arith}
-use lib.ListN.{length}
+use Rattle.walks.proofs.Words.{arith, length, needs}
 use Rattle.wire.specs.Varint.{largest}
 use Rattle.wire.specs.Units.{largestQuarter}
 use Rattle.datagram.specs.Sending.{frameBytes, putFrame}
 use Rattle.datagram.proofs.Putting.{size-le, too-large, not-large, too-long, not-long, at-short, at-fits, frame-need}
-use borrow.Author.Needs.{needs}
 use Rattle.datagram.proofs.write.put_frame.Statement.{statement}
 use Rattle.datagram.proofs.write.put_frame.Tie as tie
 

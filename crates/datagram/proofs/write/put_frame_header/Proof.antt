@@ -1,14 +1,10 @@
 -- `put_frame_header`, by the length and the path size; the rest is what `write_varint` promises. Assumes nothing.
-use mathlib.Core.Path.{_∙_}
-use Prim.Native.Nat.{_+_}
-use native.Mathlib.Omega.{arith}
-use lib.ListN.{length}
+use Rattle.walks.proofs.Words.{_∙_, _+_, arith, length, needs}
 use Rattle.wire.specs.Varint.{largest, encode}
 use Rattle.wire.specs.Units.{largestQuarter}
 use Rattle.wire.proofs.Encoding.{length-encode}
 use Rattle.datagram.specs.Sending.{putFrameHeader}
 use Rattle.datagram.proofs.Putting.{size-le, varint-at, too-large, not-large, too-long, not-long}
-use borrow.Author.Needs.{needs}
 use Rattle.datagram.proofs.write.put_frame_header.Statement.{statement}
 use Rattle.datagram.proofs.write.put_frame_header.Tie as tie
 

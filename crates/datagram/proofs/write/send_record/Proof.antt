@@ -1,8 +1,6 @@
 -- `send_record`, by the settings and two flags. Assumes nothing.
-use mathlib.Core.Path.{sym, _∙_}
-use borrow.Author.Tests.{not-true, not-false}
+use Rattle.walks.proofs.Words.{sym, _∙_, not-true, not-false, needs}
 use Rattle.datagram.specs.Sending.{sendingRecord}
-use borrow.Author.Needs.{needs}
 use Rattle.datagram.proofs.write.send_record.Statement.{statement}
 use Rattle.datagram.proofs.write.send_record.Tie as tie
 

@@ -1,7 +1,6 @@
 -- `send_to`, by what was looked up and the quarter of the ID. Assumes nothing.
-use mathlib.Core.Path.{sym, _∙_}
+use Rattle.walks.proofs.Words.{sym, _∙_, needs}
 use Rattle.datagram.specs.Code.{sendingBy}
-use borrow.Author.Needs.{needs}
 use Rattle.datagram.proofs.write.send_to.Statement.{statement}
 use Rattle.datagram.proofs.write.send_to.Tie as tie
 

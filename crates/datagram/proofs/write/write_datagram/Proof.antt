@@ -1,12 +1,8 @@
 -- `write_datagram`, by the length of the payload and the room. Assumes nothing.
-use mathlib.Core.Path.{_∙_}
-use native.Mathlib.Omega.{arith}
-use mathlib.Core.List.{_++_}
-use lib.ListN.{length, length-set}
+use Rattle.walks.proofs.Words.{_∙_, arith, _++_, length, length-set, needs}
 use Rattle.wire.specs.Varint.{largest, encode}
 use Rattle.datagram.specs.Sending.{capsuleHeader, capsuleBytes, putCapsule}
 use Rattle.datagram.proofs.Putting.{size-le, too-large, not-large, at-short, at-fits, capsule-need, after-type}
-use borrow.Author.Needs.{needs}
 use Rattle.datagram.proofs.write.write_datagram.Statement.{statement}
 use Rattle.datagram.proofs.write.write_datagram.Tie as tie
 
@@ -22,6 +18,7 @@ write-datagram-spec =
     (λ c. let s = c .before .before .before .before .before .args .payload .now in not-large _ (length s) (omega arith) (at-short _ _ _ _ (capsule-need s _ (c .before .least-size .ensures)) (omega arith)))
     (λ c. search needs)
     (λ c. let s = c .before .before .before .before .before .before .args .payload .now in not-large _ (length s) (omega arith) (at-short _ _ _ _ (capsule-need s _ (c .before .before .least-size .ensures)) (omega arith)))
+    (λ c. search needs)
     (λ c. search needs)
     (λ c. search needs)
     (λ c κs. simp length-set (omega arith, omega (arith, c .before .before .before .least-size .ensures)))

@@ -1,12 +1,8 @@
 -- `write_datagram_header`, by the length and the room. Assumes nothing.
-use mathlib.Core.Path.{_∙_}
-use Prim.Native.Nat.{_+_}
-use native.Mathlib.Omega.{arith}
-use lib.ListN.{length, length-set}
+use Rattle.walks.proofs.Words.{_∙_, _+_, arith, length, length-set, needs}
 use Rattle.wire.specs.Varint.{largest, encode}
 use Rattle.datagram.specs.Sending.{capsuleHeader, putCapsuleHeader}
 use Rattle.datagram.proofs.Putting.{size-le, varint-there, too-large, not-large, at-short, at-fits, header-need, after-type}
-use borrow.Author.Needs.{needs}
 use Rattle.datagram.proofs.write.write_datagram_header.Statement.{statement}
 use Rattle.datagram.proofs.write.write_datagram_header.Tie as tie
 
@@ -21,6 +17,7 @@ write-datagram-header-spec =
     (λ c. let n = c .before .before .before .before .args .length in not-large _ n (omega arith) (at-short _ _ _ _ (header-need n _ (c .before .least-size .ensures)) (omega arith)))
     (λ c. search needs)
     (λ c. let n = c .before .before .before .before .before .args .length in not-large _ n (omega arith) (at-short _ _ _ _ (header-need n _ (c .before .before .least-size .ensures)) (omega arith)))
+    (λ c. search needs)
     (λ c. search needs)
     (λ c. search needs)
     (λ c κs. search needs)

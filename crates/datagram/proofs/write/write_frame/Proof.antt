@@ -1,12 +1,6 @@
 -- `write_frame` meets its contract, by the walk of `Outgoing` and the law `sent-by-lookup`. Assumes nothing.
-use mathlib.Core.Path.{_≡_, refl, ap, _∙_}
-use mathlib.Core.List.{List}
-use mir.Syntax.{named, imm, w8, tyInt, tyRef}
-use contract.Running.{givenOf, tables}
-use types.Kit.{ ! }
-use denote.Ref.{now}
-use denote.Slice.{sliceTy}
-use denote.Triple.Table.{cited}
+use Rattle.walks.proofs.Words.{_≡_, refl, ap, _∙_, List}
+use Rattle.walks.proofs.Walk.{named, imm, w8, tyInt, tyRef, givenOf, tables, !, now, sliceTy, cited}
 use Rattle.wire.specs.Writing.{writing}
 use Rattle.streams.specs.declared.table.Lookup.{Lookup}
 use Rattle.streams.proofs.table.sought.Symbol as seek-def

@@ -1,11 +1,6 @@
 -- `write_frame_header` meets its contract, by the walk of `Outgoing` and the law `header-by-lookup`. Assumes nothing.
-use mathlib.Core.Path.{_≡_, refl, ap, _∙_}
-use mathlib.Core.List.{List}
-use mir.Syntax.{w64, tyInt}
-use contract.Running.{givenOf, tables}
-use types.Kit.{ ! }
-use denote.Ref.{now}
-use denote.Triple.Table.{cited}
+use Rattle.walks.proofs.Words.{_≡_, refl, ap, _∙_, List}
+use Rattle.walks.proofs.Walk.{w64, tyInt, givenOf, tables, !, now, cited}
 use Rattle.wire.specs.Writing.{writing}
 use Rattle.streams.specs.declared.table.Lookup.{Lookup}
 use Rattle.streams.proofs.table.sought.Symbol as seek-def

@@ -1,9 +1,7 @@
 -- `close_by_value`, by the walk of `AdaptedClose`. Assumes nothing.
 use mathlib.Core.Path.{refl}
-use base.Logic.{emp}
-use contract.Monad.{factI}
+use Rattle.walks.proofs.Walk.{emp, factI, cited}
 use denote.Struct.Laws as LL
-use denote.Triple.Table.{cited}
 use Rattle.capsule.specs.Reader.{closing}
 use Rattle.capsule.proofs.reader.Closed as P
 use Rattle.capsule.proofs.reader.Closed.Laws as P′

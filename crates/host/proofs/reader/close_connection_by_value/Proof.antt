@@ -1,9 +1,7 @@
 -- `close_connection_by_value`, by the walk of `AdaptedClose`. Assumes nothing.
 use mathlib.Core.Path.{refl}
-use base.Logic.{emp}
-use contract.Monad.{factI}
+use Rattle.walks.proofs.Walk.{emp, factI, cited}
 use denote.Struct.Laws as LL
-use denote.Triple.Table.{cited}
 use Rattle.host.proofs.reader.ClosedConnection as P
 use Rattle.host.proofs.reader.ClosedConnection.Laws as P′
 use Rattle.host.proofs.reader.close_connection.Symbol as g-def

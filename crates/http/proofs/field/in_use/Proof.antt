@@ -1,7 +1,4 @@
-use mathlib.Core.Path.{_≡_, ap, sym, _∙_}
-use mathlib.Core.List.{[], _∷_}
-use borrow.Author.Needs.{needs}
-use borrow.Author.Tests.{eq-eqb, ne-eqb}
+use Rattle.walks.proofs.Words.{_≡_, ap, sym, _∙_, [], _∷_, needs, eq-eqb, ne-eqb}
 use denote.Ref.{now}
 use Rattle.http.specs.Field.{trimEnd, sameBytes, inUse}
 use Rattle.http.proofs.SameBytes.{two-bytes, other-length}
@@ -11,21 +8,6 @@ use Rattle.http.proofs.field.in_use.Tie as tie
 trimmed : (c : tie.After-trim-end) → inUse (now (c .before .before .before .args .value)) ≡ sameBytes (now (c .trim-end .result)) (0x3f ∷ 0x31 ∷ [])
 unfolding inUse
 trimmed c = rw (c .trim-end .ensures ∙ ap trimEnd (c .before .trim-start .ensures))
-
-trim-start-requires : tie.Need-trim-start-requires
-trim-start-requires c κs = search needs
-
-trim-end-requires : tie.Need-trim-end-requires
-trim-end-requires c κs = search needs
-
-returns : tie.Need-returns
-returns c = sym (trimmed (c .before) ∙ other-length _ _ (c .if1 .taken))
-
-shared-slice-read-if2 : tie.Need-shared-slice-read-if2
-shared-slice-read-if2 c = search needs
-
-shared-slice-read-result : tie.Need-shared-slice-read-result
-shared-slice-read-result c = search needs
 
 returns-2 : tie.Need-returns-2
 returns-2 c =
@@ -41,10 +23,10 @@ pub in-use-spec : {M : Type 1} → statement M
 in-use-spec =
     tie.close
     (tie.spec
-    trim-start-requires
-    trim-end-requires
-    returns
-    shared-slice-read-if2
-    shared-slice-read-result
+    (λ c κs. search needs)
+    (λ c κs. search needs)
+    (λ c. sym (trimmed (c .before) ∙ other-length _ _ (c .if1 .taken)))
+    (λ c. search needs)
+    (λ c. search needs)
     returns-2
     returns-3)

@@ -1,13 +1,6 @@
 -- The loop's invariant: what stands at `end` and after it is spaces.
-use mathlib.Core.Path.{_≡_, ap, sym, _∙_}
-use mathlib.Core.Logic.{⊎-elim}
-use Prim.Native.Nat.{_≤_}
-use native.Mathlib.Omega.{arith}
-use borrow.Author.Needs.{needs}
-use borrow.Author.Tests.{not-true, not-false}
+use Rattle.walks.proofs.Words.{_≡_, ap, sym, _∙_, ⊎-elim, _≤_, arith, needs, not-true, not-false, length, take, length-take-le, take-length}
 use denote.Ref.{now}
-use lib.ListN.{length, take}
-use lib.Seq.{length-take-le, take-length}
 use Rattle.http.specs.Field.{trimEnd}
 use Rattle.http.proofs.Trim.{end-skips, end-keeps, end-empty}
 use Rattle.http.proofs.field.trim_end.Statement.{statement}

@@ -1,13 +1,6 @@
 -- The loop's invariant: what was passed is spaces.
-use mathlib.Core.Path.{_≡_, refl, sym, _∙_}
-use mathlib.Core.Logic.{⊎-elim}
-use Prim.Native.Nat.{_≤_, _-_}
-use native.Mathlib.Omega.{arith}
-use borrow.Author.Needs.{needs}
-use borrow.Author.Tests.{not-true, not-false}
+use Rattle.walks.proofs.Words.{_≡_, refl, sym, _∙_, ⊎-elim, _≤_, _-_, arith, needs, not-true, not-false, length, drop, length-drop, take-all}
 use denote.Ref.{now}
-use lib.ListN.{length, drop, length-drop}
-use lib.Seq.{take-all}
 use Rattle.http.specs.Field.{trimStart}
 use Rattle.http.proofs.Trim.{start-skips, start-keeps, start-empty}
 use Rattle.http.proofs.field.trim_start.Statement.{statement}

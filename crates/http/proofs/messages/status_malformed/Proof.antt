@@ -2,14 +2,5 @@ use borrow.Author.Tests.{eq-eqb, ne-eqb}
 use Rattle.http.proofs.messages.status_malformed.Statement.{statement}
 use Rattle.http.proofs.messages.status_malformed.Tie as tie
 
-returns : tie.Need-returns
-returns c = simp (eq-eqb _ _ (c .if1 .taken))
-
-returns-2 : tie.Need-returns-2
-returns-2 c = simp (ne-eqb _ _ (c .before .if1 .left), eq-eqb _ _ (c .if2 .taken))
-
-returns-3 : tie.Need-returns-3
-returns-3 c = simp (ne-eqb _ _ (c .before .if1 .left), ne-eqb _ _ (c .if2 .left))
-
 pub status-malformed-spec : {M : Type 1} → statement M
-status-malformed-spec = tie.close (tie.spec returns returns-2 returns-3)
+status-malformed-spec = tie.close (tie.spec (λ c. simp (eq-eqb _ _ (c .if1 .taken))) (λ c. simp (ne-eqb _ _ (c .before .if1 .left), eq-eqb _ _ (c .if2 .taken))) (λ c. simp (ne-eqb _ _ (c .before .if1 .left), ne-eqb _ _ (c .if2 .left))))

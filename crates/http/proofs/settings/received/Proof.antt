@@ -1,12 +1,7 @@
-use native.Mathlib.Omega.{arith}
-use borrow.Author.Tests.{lt-ltb, le-ltb}
+use Rattle.walks.proofs.Words.{arith, lt-ltb, le-ltb}
 use Rattle.http.specs.Settings.{receivedSetting}
 use Rattle.http.proofs.settings.received.Statement.{statement}
 use Rattle.http.proofs.settings.received.Tie as tie
-
-returns : tie.Need-returns
-unfolding receivedSetting
-returns c = simp (lt-ltb 1 (c .before .args .value) (omega arith))
 
 returns-2 : tie.Need-returns-2
 unfolding receivedSetting
@@ -21,4 +16,5 @@ returns-3 c =
     simp (le-ltb 1 (a .value) (omega arith), le-ltb (a .value) (a .stored) (omega arith))
 
 pub received-spec : {M : Type 1} → statement M
-received-spec = tie.close (tie.spec returns returns-2 returns-3)
+unfolding receivedSetting
+received-spec = tie.close (tie.spec (λ c. simp (lt-ltb 1 (c .before .args .value) (omega arith))) returns-2 returns-3)

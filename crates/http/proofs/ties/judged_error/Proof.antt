@@ -1,8 +1,7 @@
 -- `judged_error`, by the nine answers. Assumes nothing.
-use mathlib.Core.Path.{ap, sym}
+use Rattle.walks.proofs.Words.{ap, sym, needs}
 use Rattle.http.specs.Errors.{number}
 use Rattle.http.specs.Ties.{judgedError}
-use borrow.Author.Needs.{needs}
 use Rattle.http.proofs.ties.judged_error.Statement.{statement}
 use Rattle.http.proofs.ties.judged_error.Tie as tie
 

@@ -1,7 +1,6 @@
-use mathlib.Core.Path.{ap, sym}
+use Rattle.walks.proofs.Words.{ap, sym, needs}
 use Rattle.http.specs.Errors.{number}
 use Rattle.http.specs.Ties.{reportError}
-use borrow.Author.Needs.{needs}
 use Rattle.http.proofs.ties.report_error.Statement.{statement}
 use Rattle.http.proofs.ties.report_error.Tie as tie
 

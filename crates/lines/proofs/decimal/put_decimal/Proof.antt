@@ -1,5 +1,4 @@
-use mathlib.Core.Path.{_∙_, refl}
-use native.Mathlib.Omega.{arith}
+use Rattle.walks.proofs.Words.{_∙_, refl, arith}
 use Rattle.lines.proofs.Decimals.{four-more}
 use Rattle.lines.proofs.Placing.{Standing, stands-next}
 use Rattle.lines.proofs.decimal.put_decimal.Statement.{statement}

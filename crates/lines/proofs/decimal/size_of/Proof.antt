@@ -1,7 +1,4 @@
-use native.Mathlib.Omega.{arith}
-use Prim.Native.Nat.{_+_}
-use mathlib.Core.Path.{_≡_}
-use lib.ListN.{length}
+use Rattle.walks.proofs.Words.{arith, _+_, _≡_, length}
 use Rattle.lines.specs.Decimal.{decimal}
 use Rattle.lines.proofs.Decimals.{length-most, four-more}
 use Rattle.lines.proofs.decimal.size_of.Statement.{statement}

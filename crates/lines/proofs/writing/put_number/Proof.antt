@@ -1,21 +1,8 @@
 use Rattle.lines.specs.Decimal.{decimal}
 use Rattle.lines.proofs.Placing.{sets-then}
-use mathlib.Core.Path.{refl}
-use borrow.Author.Needs.{needs}
+use Rattle.walks.proofs.Words.{refl, needs}
 use Rattle.lines.proofs.writing.put_number.Statement.{statement}
 use Rattle.lines.proofs.writing.put_number.Tie as tie
-
-put-decimal-requires : tie.Need-put-decimal-requires
-put-decimal-requires c κs = search needs
-
-add-out : tie.Need-add-out
-add-out c = search needs
-
-slice-write-out : tie.Need-slice-write-out
-slice-write-out c = search needs
-
-same-length : tie.Need-same-length
-same-length c = search needs
 
 returns : tie.Need-returns
 returns c =
@@ -24,4 +11,4 @@ returns c =
 
 pub put-number-spec : {M : Type 1} → statement M
 put-number-spec =
-    tie.close (tie.spec put-decimal-requires add-out slice-write-out same-length returns)
+    tie.close (tie.spec (λ c κs. search needs) (λ c. search needs) (λ c. search needs) (λ c. search needs) returns)

@@ -1,8 +1,4 @@
-use native.Mathlib.Omega.{arith}
-use borrow.Author.Needs.{needs}
-use Prim.Native.Nat.{_-_, _≤_}
-use mathlib.Core.Path.{_≡_, refl}
-use lib.ListN.{length, length-set}
+use Rattle.walks.proofs.Words.{arith, needs, _-_, _≤_, _≡_, refl, length, length-set}
 use Rattle.lines.proofs.Placing.{Putting, put-none, put-next, put-all}
 use Rattle.lines.proofs.writing.put_text.Statement.{statement}
 use Rattle.lines.proofs.writing.put_text.Tie as tie

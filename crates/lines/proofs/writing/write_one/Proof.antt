@@ -1,34 +1,12 @@
-use native.Mathlib.Omega.{arith}
+use Rattle.walks.proofs.Words.{arith, needs}
 use Rattle.lines.proofs.Placing.{no-room, written, length-one, placed-one}
-use borrow.Author.Needs.{needs}
 use Rattle.lines.proofs.writing.write_one.Statement.{statement}
 use Rattle.lines.proofs.writing.write_one.Tie as tie
-
-size-of-requires : tie.Need-size-of-requires
-size-of-requires c κs = search needs
-
-add-length : tie.Need-add-length
-add-length c = search needs
-
-add-length-2 : tie.Need-add-length-2
-add-length-2 c = search needs
-
-has-room-requires : tie.Need-has-room-requires
-has-room-requires c κs = search needs
-
-put-text-requires : tie.Need-put-text-requires
-put-text-requires c κs = omega (arith, c .before .before .has-room .ensures .0 (c .before .if1 .taken))
-
-add-put-number : tie.Need-add-put-number
-add-put-number c = omega (arith, c .before .before .before .before .before .before .has-room .ensures .0 (c .before .before .before .before .before .if1 .taken))
 
 put-number-requires : tie.Need-put-number-requires
 put-number-requires c κs =
     let test = c .before .before .before .before .before in
     (test .before .before .size-of .ensures .0, omega (arith, test .before .has-room .ensures .0 (test .if1 .taken), c .before .before .before .put-text .kept .1 .0))
-
-same-length : tie.Need-same-length
-same-length c = search needs
 
 returns : tie.Need-returns
 returns c =
@@ -52,13 +30,13 @@ pub write-one-spec : {M : Type 1} → statement M
 write-one-spec =
     tie.close
     (tie.spec
-    size-of-requires
-    add-length
-    add-length-2
-    has-room-requires
-    put-text-requires
-    add-put-number
+    (λ c κs. search needs)
+    (λ c. search needs)
+    (λ c. search needs)
+    (λ c κs. search needs)
+    (λ c κs. omega (arith, c .before .before .has-room .ensures .0 (c .before .if1 .taken)))
+    (λ c. omega (arith, c .before .before .before .before .before .before .has-room .ensures .0 (c .before .before .before .before .before .if1 .taken)))
     put-number-requires
-    same-length
+    (λ c. search needs)
     returns
     returns-2)

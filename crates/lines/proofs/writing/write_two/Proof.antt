@@ -1,44 +1,13 @@
-use native.Mathlib.Omega.{arith}
+use Rattle.walks.proofs.Words.{arith, needs}
 use Rattle.lines.proofs.Placing.{no-room, written, length-two, placed-two}
-use borrow.Author.Needs.{needs}
 use Rattle.lines.proofs.writing.write_two.Statement.{statement}
 use Rattle.lines.proofs.writing.write_two.Tie as tie
-
-size-of-requires : tie.Need-size-of-requires
-size-of-requires c κs = search needs
-
-size-of-requires-2 : tie.Need-size-of-requires-2
-size-of-requires-2 c κs = search needs
-
-add-length : tie.Need-add-length
-add-length c = search needs
-
-add-length-2 : tie.Need-add-length-2
-add-length-2 c = search needs
-
-add-length-3 : tie.Need-add-length-3
-add-length-3 c = search needs
-
-add-length-4 : tie.Need-add-length-4
-add-length-4 c = search needs
-
-has-room-requires : tie.Need-has-room-requires
-has-room-requires c κs = search needs
-
-put-text-requires : tie.Need-put-text-requires
-put-text-requires c κs = omega (arith, c .before .before .has-room .ensures .0 (c .before .if1 .taken))
-
-add-at : tie.Need-add-at
-add-at c = omega (arith, c .before .before .before .before .before .has-room .ensures .0 (c .before .before .before .before .if1 .taken))
 
 put-number-requires : tie.Need-put-number-requires
 put-number-requires c κs =
     let test = c .before .before .before .before .before in
     let sized = test .before .before in
     (sized .before .size-of .ensures .0, omega (arith, test .before .has-room .ensures .0 (test .if1 .taken), c .before .before .before .put-text .kept .1 .0))
-
-add-put-number : tie.Need-add-put-number
-add-put-number c = search needs
 
 add-put-number-2 : tie.Need-add-put-number-2
 add-put-number-2 c =
@@ -50,9 +19,6 @@ put-number-requires-2 c κs =
     let test = c .before .before .before .before .before .before .before .before .before in
     let sized = test .before .before in
     (sized .size-of2 .ensures .0, omega (arith, test .before .has-room .ensures .0 (test .if1 .taken), c .before .before .before .before .before .before .before .put-text .kept .1 .0, c .before .before .before .put-number .kept .1 .1 .1 .0))
-
-same-length : tie.Need-same-length
-same-length c = search needs
 
 returns : tie.Need-returns
 returns c =
@@ -78,19 +44,19 @@ pub write-two-spec : {M : Type 1} → statement M
 write-two-spec =
     tie.close
     (tie.spec
-    size-of-requires
-    size-of-requires-2
-    add-length
-    add-length-2
-    add-length-3
-    add-length-4
-    has-room-requires
-    put-text-requires
-    add-at
+    (λ c κs. search needs)
+    (λ c κs. search needs)
+    (λ c. search needs)
+    (λ c. search needs)
+    (λ c. search needs)
+    (λ c. search needs)
+    (λ c κs. search needs)
+    (λ c κs. omega (arith, c .before .before .has-room .ensures .0 (c .before .if1 .taken)))
+    (λ c. omega (arith, c .before .before .before .before .before .has-room .ensures .0 (c .before .before .before .before .if1 .taken)))
     put-number-requires
-    add-put-number
+    (λ c. search needs)
     add-put-number-2
     put-number-requires-2
-    same-length
+    (λ c. search needs)
     returns
     returns-2)

@@ -1,8 +1,7 @@
 -- `closing_answer`, by its three cases (`closing-by`). Assumes nothing.
-use mathlib.Core.Path.{sym, _∙_}
+use Rattle.walks.proofs.Words.{sym, _∙_, needs}
 use Rattle.streams.specs.Code.{closingBy}
 use Rattle.streams.proofs.Decisions.{closing-by}
-use borrow.Author.Needs.{needs}
 use Rattle.streams.proofs.plan.closing_answer.Statement.{statement}
 use Rattle.streams.proofs.plan.closing_answer.Tie as tie
 

@@ -1,8 +1,7 @@
 -- `opening_answer`, by its three cases (`opening-by`). Assumes nothing.
-use mathlib.Core.Path.{sym, _∙_}
+use Rattle.walks.proofs.Words.{sym, _∙_, needs}
 use Rattle.streams.specs.Code.{openingBy}
 use Rattle.streams.proofs.Decisions.{opening-by}
-use borrow.Author.Needs.{needs}
 use Rattle.streams.proofs.plan.opening_answer.Statement.{statement}
 use Rattle.streams.proofs.plan.opening_answer.Tie as tie
 

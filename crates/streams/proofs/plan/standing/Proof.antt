@@ -1,8 +1,7 @@
 -- `standing`, by its three cases (`standing-by`). Assumes nothing.
-use mathlib.Core.Path.{sym, _∙_}
+use Rattle.walks.proofs.Words.{sym, _∙_, needs}
 use Rattle.streams.specs.Code.{standingBy}
 use Rattle.streams.proofs.Decisions.{standing-by}
-use borrow.Author.Needs.{needs}
 use Rattle.streams.proofs.plan.standing.Statement.{statement}
 use Rattle.streams.proofs.plan.standing.Tie as tie
 

@@ -1,11 +1,9 @@
 -- `checked`, by its three ways out. Assumes nothing.
-use mathlib.Core.Path.{_≡_, sym, ap, _∙_}
-use mathlib.Core.Bool.{Bool, true, false, _||_}
+use Rattle.walks.proofs.Words.{_≡_, sym, ap, _∙_, Bool, true, false, _||_, needs}
 use Rattle.streams.specs.declared.record.StreamRecord.{StreamRecord}
 use Rattle.streams.specs.Records.{isBadRecord}
 use Rattle.streams.specs.declared.survey.Survey.{Survey}
 use Rattle.streams.specs.Code.{checked}
-use borrow.Author.Needs.{needs}
 use Rattle.streams.proofs.survey.checked.Statement.{statement}
 use Rattle.streams.proofs.survey.checked.Tie as tie
 

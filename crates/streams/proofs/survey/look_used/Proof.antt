@@ -1,13 +1,8 @@
 -- `look_used`, by what `checked` promises and by the place that its two tests leave. Assumes nothing.
-use mathlib.Core.Path.{_≡_, sym, ap, _∙_}
-use Prim.Native.Nat.{ℕ}
-use mathlib.Core.Bool.{Bool, cond}
-use lib.Dec.{eqb, ltb}
-use borrow.Author.Tests.{eq-eqb, ne-eqb, lt-ltb, le-ltb}
+use Rattle.walks.proofs.Words.{_≡_, sym, ap, _∙_, ℕ, Bool, cond, eqb, ltb, eq-eqb, ne-eqb, lt-ltb, le-ltb, needs}
 use Rattle.streams.specs.declared.record.StreamRecord.{StreamRecord}
 use Rattle.streams.specs.declared.survey.Survey.{Survey}
 use Rattle.streams.specs.Code.{checked, lookedUsed}
-use borrow.Author.Needs.{needs}
 use Rattle.streams.proofs.survey.look_used.Statement.{statement}
 use Rattle.streams.proofs.survey.look_used.Tie as tie
 

@@ -1,11 +1,7 @@
 -- `stands`, by whether the record holds the quarter. Assumes nothing.
-use mathlib.Core.Path.{_≡_, sym, ap, _∙_}
-use Prim.Native.Nat.{ℕ}
-use mathlib.Core.Bool.{Bool, true, false, _&&_, _||_, and-true, and-false, or-true, or-false}
-use borrow.Author.Tests.{eq-eqb, ne-eqb}
+use Rattle.walks.proofs.Words.{_≡_, sym, ap, _∙_, ℕ, Bool, true, false, _&&_, _||_, and-true, and-false, or-true, or-false, eq-eqb, ne-eqb, needs}
 use Rattle.streams.specs.declared.record.StreamRecord.{StreamRecord}
 use Rattle.streams.specs.Records.{isUsed, holds}
-use borrow.Author.Needs.{needs}
 use Rattle.streams.proofs.survey.stands.Statement.{statement}
 use Rattle.streams.proofs.survey.stands.Tie as tie
 

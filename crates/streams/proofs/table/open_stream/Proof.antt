@@ -1,13 +1,10 @@
 -- `open_stream` meets its contract, by the walk of `Changing` and the law `opened-by-plan`. Assumes nothing.
-use mathlib.Core.Path.{refl}
-use mathlib.Core.Bool.{Bool}
+use Rattle.walks.proofs.Words.{refl, Bool}
+use Rattle.walks.proofs.Walk.{bool, bool-tells, bool-lawful, cited}
 use mir.Syntax.{tyBool}
 use mir.Val.{vbool}
-use denote.Builtin.{bool}
-use denote.Plain.{bool-tells, bool-lawful}
 use denote.Struct.Laws as LL
 use denote.Enum.Laws as EL
-use denote.Triple.Table.{cited}
 use Rattle.wire.specs.declared.units.StreamId.{StreamId}
 use Rattle.streams.specs.declared.plan.OpeningPlan.{OpeningPlan}
 use Rattle.streams.specs.Tables.{Table, lookupOf, sought, lowestFree, openingOf, tableOpened}

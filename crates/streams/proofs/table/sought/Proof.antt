@@ -1,7 +1,6 @@
 -- `sought`, by the two cases of `quarter`. Assumes nothing.
-use mathlib.Core.Path.{sym, _∙_}
+use Rattle.walks.proofs.Words.{sym, _∙_, needs}
 use Rattle.streams.specs.Tables.{soughtIn}
-use borrow.Author.Needs.{needs}
 use Rattle.streams.proofs.table.sought.Statement.{statement}
 use Rattle.streams.proofs.table.sought.Tie as tie
 

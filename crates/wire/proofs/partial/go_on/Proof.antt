@@ -1,34 +1,11 @@
-use native.Mathlib.Omega.{arith}
-use mathlib.Core.Path.{ap, _∙_}
-use Prim.Native.Nat.{ℕ, _+_, _-_}
-use lib.ListN.{length}
-use lib.Seq.{take-length}
+use Rattle.walks.proofs.Words.{arith, ap, _∙_, ℕ, _+_, _-_, length, take-length, needs}
 use Rattle.wire.specs.Bytes.{numFrom}
 use Rattle.wire.specs.Varint.{valueOf}
 use Rattle.wire.specs.Partial.{partial}
 use Rattle.wire.specs.declared.partial.Taken.the-variants.{More, Ends}
 use Rattle.wire.proofs.Parts.{goes, goes-part, goes-whole, starts-le}
-use borrow.Author.Needs.{needs}
 use Rattle.wire.proofs.partial.go_on.Statement.{statement}
 use Rattle.wire.proofs.partial.go_on.Tie as tie
-
-sub-size-of : tie.Need-sub-size-of
-sub-size-of c = search needs
-
-mul-size-of : tie.Need-mul-size-of
-mul-size-of c = omega (arith, starts-le (c .before .args .have) (c .before .args .raw) (c .before .pre .1))
-
-cast-size-of : tie.Need-cast-size-of
-cast-size-of c = omega (arith, starts-le (c .before .args .have) (c .before .args .raw) (c .before .pre .1))
-
-shr-size-of : tie.Need-shr-size-of
-shr-size-of c = omega (arith, starts-le (c .before .args .have) (c .before .args .raw) (c .before .pre .1))
-
-cast-size-of-2 : tie.Need-cast-size-of-2
-cast-size-of-2 c = omega (arith, goes (c .before .args .have) (c .before .args .raw) (c .before .pre .0) (c .before .pre .1) .byte)
-
-size-of-requires : tie.Need-size-of-requires
-size-of-requires c κs = search needs
 
 sub-missing : tie.Need-sub-missing
 sub-missing c =
@@ -74,12 +51,12 @@ pub go-on-spec : {M : Type 1} → statement M
 go-on-spec =
     tie.close
     (tie.spec
-    sub-size-of
-    mul-size-of
-    cast-size-of
-    shr-size-of
-    cast-size-of-2
-    size-of-requires
+    (λ c. search needs)
+    (λ c. omega (arith, starts-le (c .before .args .have) (c .before .args .raw) (c .before .pre .1)))
+    (λ c. omega (arith, starts-le (c .before .args .have) (c .before .args .raw) (c .before .pre .1)))
+    (λ c. omega (arith, starts-le (c .before .args .have) (c .before .args .raw) (c .before .pre .1)))
+    (λ c. omega (arith, goes (c .before .args .have) (c .before .args .raw) (c .before .pre .0) (c .before .pre .1) .byte))
+    (λ c κs. search needs)
     sub-missing
     number-on-requires
     cast-t16

@@ -1,9 +1,4 @@
-use native.Mathlib.Nat.{add-zero, add-assoc, le-antisymm}
-use borrow.Author.Needs.{needs}
-use native.Mathlib.Omega.{arith}
-use Prim.Native.Nat.{ℕ, _+_, _-_, _<_, _≤_, _^_}
-use mathlib.Core.Path.{_≡_, sym, ap, _∙_, subst}
-use lib.ListN.{getD, take}
+use Rattle.walks.proofs.Words.{add-zero, add-assoc, le-antisymm, needs, arith, ℕ, _+_, _-_, _<_, _≤_, _^_, _≡_, sym, ap, _∙_, subst, getD, take}
 use Rattle.wire.specs.Bytes.{numFrom}
 use Rattle.wire.proofs.Numbers.{number-nil, number-turn, number-bound, number-room}
 use Rattle.wire.proofs.partial.number_on.Statement.{statement}

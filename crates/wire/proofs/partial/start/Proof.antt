@@ -1,20 +1,9 @@
-use native.Mathlib.Omega.{arith}
-use mathlib.Core.Path.{sym, _∙_}
+use Rattle.walks.proofs.Words.{arith, sym, _∙_, needs}
 use Rattle.wire.proofs.Numbers.{bytes-each}
 use Rattle.wire.proofs.Reading.{incomplete-lt}
 use Rattle.wire.proofs.Parts.{begins-whole, begins-part}
-use borrow.Author.Needs.{needs}
 use Rattle.wire.proofs.partial.start.Statement.{statement}
 use Rattle.wire.proofs.partial.start.Tie as tie
-
-read-varint-requires : tie.Need-read-varint-requires
-read-varint-requires c κs = search needs
-
-enum-known-read : tie.Need-enum-known-read
-enum-known-read c = search needs
-
-enum-told : tie.Need-enum-told
-enum-told c = search needs
 
 number-on-requires : tie.Need-number-on-requires
 number-on-requires c κs = omega (arith, incomplete-lt (c .before .before .before .before .args .s .now) (bytes-each (c .before .before .before .before .args .s .now) (λ i. c .before .before .before .shared-slice-known .given i .fits)) (sym (c .before .before .read-varint .ensures) ∙ c .enum-told .given .1))
@@ -32,9 +21,9 @@ pub start-spec : {M : Type 1} → statement M
 start-spec =
     tie.close
     (tie.spec
-    read-varint-requires
-    enum-known-read
-    enum-told
+    (λ c κs. search needs)
+    (λ c. search needs)
+    (λ c. search needs)
     number-on-requires
     cast-t8
     returns

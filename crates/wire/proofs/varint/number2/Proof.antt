@@ -1,28 +1,7 @@
-use native.Mathlib.Omega.{arith}
-use mathlib.Core.Path.{_∙_}
-use Prim.Native.Nat.{_+_}
+use Rattle.walks.proofs.Words.{arith, _∙_, _+_, needs}
 use Rattle.wire.proofs.Numbers.{number-one, number-halves}
-use borrow.Author.Needs.{needs}
 use Rattle.wire.proofs.varint.number2.Statement.{statement}
 use Rattle.wire.proofs.varint.number2.Tie as tie
-
-shared-slice-read-wide : tie.Need-shared-slice-read-wide
-shared-slice-read-wide c = search needs
-
-wide-requires : tie.Need-wide-requires
-wide-requires c κs = search needs
-
-mul-result : tie.Need-mul-result
-mul-result c = omega (arith, c .before .shared-slice-known2 .given (c .before .before .before .args .at), c .wide .ensures)
-
-add-wide : tie.Need-add-wide
-add-wide c = search needs
-
-shared-slice-read-wide-2 : tie.Need-shared-slice-read-wide-2
-shared-slice-read-wide-2 c = search needs
-
-wide-requires-2 : tie.Need-wide-requires-2
-wide-requires-2 c κs = search needs
 
 add-result : tie.Need-add-result
 add-result c = omega (arith, c .before .shared-slice-known3 .given (c .before .before .before .before .before .args .at), c .before .shared-slice-known3 .given (c .before .before .before .before .before .args .at + 1), c .before .before .wide .ensures, c .wide2 .ensures)
@@ -40,11 +19,11 @@ pub number2-spec : {M : Type 1} → statement M
 number2-spec =
     tie.close
     (tie.spec
-    shared-slice-read-wide
-    wide-requires
-    mul-result
-    add-wide
-    shared-slice-read-wide-2
-    wide-requires-2
+    (λ c. search needs)
+    (λ c κs. search needs)
+    (λ c. omega (arith, c .before .shared-slice-known2 .given (c .before .before .before .args .at), c .wide .ensures))
+    (λ c. search needs)
+    (λ c. search needs)
+    (λ c κs. search needs)
     add-result
     returns)

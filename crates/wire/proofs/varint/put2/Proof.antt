@@ -1,32 +1,9 @@
-use native.Mathlib.Omega.{arith}
-use lib.ListN.{length-set}
+use Rattle.walks.proofs.Words.{arith, length-set, needs}
 use Rattle.wire.proofs.Numbers.{put-two}
-use borrow.Author.Needs.{needs}
 use Rattle.wire.proofs.varint.put2.Statement.{statement}
 use Rattle.wire.proofs.varint.put2.Tie as tie
-
-cast-out : tie.Need-cast-out
-cast-out c = search needs
-
-slice-write-out : tie.Need-slice-write-out
-slice-write-out c = search needs
-
-cast-out-2 : tie.Need-cast-out-2
-cast-out-2 c = search needs
-
-add-out : tie.Need-add-out
-add-out c = search needs
-
-slice-write-out-2 : tie.Need-slice-write-out-2
-slice-write-out-2 c = simp length-set (omega arith)
-
-same-length : tie.Need-same-length
-same-length c = simp length-set
-
-returns : tie.Need-returns
-returns c = put-two (c .args .out .now) (c .args .at) (c .args .n) (c .pre .1)
 
 pub put2-spec : {M : Type 1} → statement M
 put2-spec =
     tie.close
-    (tie.spec cast-out slice-write-out cast-out-2 add-out slice-write-out-2 same-length returns)
+    (tie.spec (λ c. search needs) (λ c. search needs) (λ c. search needs) (λ c. search needs) (λ c. simp length-set (omega arith)) (λ c. simp length-set) (λ c. put-two (c .args .out .now) (c .args .at) (c .args .n) (c .pre .1)))

@@ -3,22 +3,10 @@ use borrow.Author.Needs.{needs}
 use Rattle.wire.proofs.varint.put4.Statement.{statement}
 use Rattle.wire.proofs.varint.put4.Tie as tie
 
-put2-requires : tie.Need-put2-requires
-put2-requires c κs = search needs
-
-add-put2 : tie.Need-add-put2
-add-put2 c = search needs
-
-put2-requires-2 : tie.Need-put2-requires-2
-put2-requires-2 c κs = search needs
-
-same-length : tie.Need-same-length
-same-length c = search needs
-
 returns : tie.Need-returns
 returns c =
     let entry = c .before .before .before .before .before .before .before .before .before in
     cc (put-halves (entry .args .out .now) (entry .args .at) 2 2 (entry .args .n))
 
 pub put4-spec : {M : Type 1} → statement M
-put4-spec = tie.close (tie.spec put2-requires add-put2 put2-requires-2 same-length returns)
+put4-spec = tie.close (tie.spec (λ c κs. search needs) (λ c. search needs) (λ c κs. search needs) (λ c. search needs) returns)

@@ -1,52 +1,9 @@
-use native.Mathlib.Omega.{arith}
-use mathlib.Core.Path.{_≡_, sym, _∙_}
-use borrow.Author.Tests.{not-true, not-false}
+use Rattle.walks.proofs.Words.{arith, sym, _∙_, not-true, not-false, needs}
 use Rattle.capsule.proofs.Planning.{forwards-role, gathers-limit, extent-most, makeable-value}
 use Rattle.capsule.proofs.Verdicts.{accepts}
 use Rattle.capsule.proofs.ShortWays.{large-limit, made-by, value-verdict, inside-address, inside-refused, inside-unmade, inside-ended, inside-taken}
-use borrow.Author.Needs.{needs}
 use Rattle.capsule.proofs.opening.Opening.feed_inside.Statement.{statement}
 use Rattle.capsule.proofs.opening.Opening.feed_inside.Tie as tie
-
--- src/short.rt:141:13
-returns : tie.Need-returns
-returns c = inside-unmade _ _ _ _ _ _ (large-limit _ (c .if1 .taken))
-
--- src/short.rt:143:13
-is-plain-requires : tie.Need-is-plain-requires
-is-plain-requires c κs = search needs
-
--- src/short.rt:144:13
-returns-2 : tie.Need-returns-2
-returns-2 c = inside-address _ _ _ _ _ _ (sym (c .before .is-plain .ensures) ∙ not-true _ (c .if2 .taken))
-
--- src/short.rt:146:13
-is-makeable-value-requires : tie.Need-is-makeable-value-requires
-is-makeable-value-requires c κs = search needs
-
--- src/short.rt:147:13
-returns-3 : tie.Need-returns-3
-returns-3 c = inside-unmade _ _ _ _ _ _ (made-by _ _ (c .before .before .before .before .if1 .left) (sym (c .before .is-makeable-value .ensures) ∙ not-true _ (c .if3 .taken)))
-
--- src/short.rt:150:13
-verdict-requires : tie.Need-verdict-requires
-verdict-requires c κs = search needs
-
--- src/short.rt:152:36
-enum-told : tie.Need-enum-told
-enum-told c = search needs
-
--- src/short.rt:154:21
-enum-told-2 : tie.Need-enum-told-2
-enum-told-2 c = search needs
-
--- src/short.rt:154:21
-gathers-requires : tie.Need-gathers-requires
-gathers-requires c κs = search needs
-
--- src/short.rt:155:21
-forwards-requires : tie.Need-forwards-requires
-forwards-requires c κs = search needs
 
 -- src/short.rt:158:66
 sub-store-bytes : tie.Need-sub-store-bytes
@@ -59,18 +16,6 @@ store-bytes-requires c κs = (omega arith, c .before .if4 .taken, λ s. omega (a
 -- src/short.rt:159:25
 forward-bytes-requires : tie.Need-forward-bytes-requires
 forward-bytes-requires c κs = (c .before .before .before .before .before .if4 .taken, omega arith, λ w. omega (arith, c .before .before .before .before .before .if4 .taken, accepts _ _ _ _ _ (sym (value-verdict _ _ _ _ _ (c .before .before .before .before .before .before .before .before .before .before .before .before .before .before .before .if1 .left) _ (sym (c .before .before .before .before .before .before .before .before .enum-told2 .given .1) ∙ c .before .before .before .before .before .before .before .before .before .before .verdict .ensures) _ _ _ (sym (c .before .before .before .before .before .before .before .before .before .before .before .before .is-makeable-value .ensures) ∙ not-false _ (c .before .before .before .before .before .before .before .before .before .before .before .if3 .left)))) .forwards (forwards-role _ _ (sym (c .before .before .before .before .before .before .forwards .ensures) ∙ w))))
-
--- src/short.rt:163:33
-report-requires : tie.Need-report-requires
-report-requires c κs = search needs
-
--- src/short.rt:160:21
-same-length : tie.Need-same-length
-same-length c = search needs
-
--- src/short.rt:160:21
-same-length-2 : tie.Need-same-length-2
-same-length-2 c = search needs
 
 -- src/short.rt:160:21
 returns-4 : tie.Need-returns-4
@@ -93,14 +38,6 @@ returns-5 : tie.Need-returns-5
 returns-5 c = inside-refused _ _ _ _ _ _ _ (value-verdict _ _ _ _ _ (c .before .before .before .before .before .before .before .if1 .left) _ (sym (c .enum-told .given .1) ∙ c .before .before .verdict .ensures) _ _ _ (sym (c .before .before .before .before .is-makeable-value .ensures) ∙ not-false _ (c .before .before .before .if3 .left)))
 
 -- src/short.rt:128:5
-same-length-3 : tie.Need-same-length-3
-same-length-3 c = search needs
-
--- src/short.rt:128:5
-same-length-4 : tie.Need-same-length-4
-same-length-4 c = search needs
-
--- src/short.rt:128:5
 returns-6 : tie.Need-returns-6
 returns-6 c = inside-taken _ _ _ _ _ _ (sym (c .before .before .before .before .before .before .before .before .before .before .before .before .before .before .before .before .before .is-plain .ensures) ∙ not-false _ (c .before .before .before .before .before .before .before .before .before .before .before .before .before .before .before .before .if2 .left)) (sym (value-verdict _ _ _ _ _ (c .before .before .before .before .before .before .before .before .before .before .before .before .before .before .before .before .before .before .if1 .left) _ (sym (c .before .before .before .before .before .before .before .before .before .before .before .enum-told2 .given .1) ∙ c .before .before .before .before .before .before .before .before .before .before .before .before .before .verdict .ensures) _ _ _ (sym (c .before .before .before .before .before .before .before .before .before .before .before .before .before .before .before .is-makeable-value .ensures) ∙ not-false _ (c .before .before .before .before .before .before .before .before .before .before .before .before .before .before .if3 .left)))) _ _ (c .before .before .before .before .before .before .before .before .before .before .gathers .ensures) (c .before .before .before .before .before .before .before .before .before .forwards .ensures) _ _ _ (c .before .before .before .before .before .before .before .before .if4 .left) (c .before .before .before .before .before .before .store-bytes2 .ensures) (c .before .before .forward-bytes2 .ensures)
 
@@ -108,27 +45,27 @@ pub feed-inside-spec : {M : Type 1} → statement M
 feed-inside-spec =
     tie.close
     (tie.spec
-    returns
-    is-plain-requires
-    returns-2
-    is-makeable-value-requires
-    returns-3
-    verdict-requires
-    enum-told
-    enum-told-2
-    gathers-requires
-    forwards-requires
+    (λ c. inside-unmade _ _ _ _ _ _ (large-limit _ (c .if1 .taken)))
+    (λ c κs. search needs)
+    (λ c. inside-address _ _ _ _ _ _ (sym (c .before .is-plain .ensures) ∙ not-true _ (c .if2 .taken)))
+    (λ c κs. search needs)
+    (λ c. inside-unmade _ _ _ _ _ _ (made-by _ _ (c .before .before .before .before .if1 .left) (sym (c .before .is-makeable-value .ensures) ∙ not-true _ (c .if3 .taken))))
+    (λ c κs. search needs)
+    (λ c. search needs)
+    (λ c. search needs)
+    (λ c κs. search needs)
+    (λ c κs. search needs)
     sub-store-bytes
     store-bytes-requires
     forward-bytes-requires
-    report-requires
-    same-length
-    same-length-2
+    (λ c κs. search needs)
+    (λ c. search needs)
+    (λ c. search needs)
     returns-4
     sub-store-bytes-2
     store-bytes-requires-2
     forward-bytes-requires-2
     returns-5
-    same-length-3
-    same-length-4
+    (λ c. search needs)
+    (λ c. search needs)
     returns-6)

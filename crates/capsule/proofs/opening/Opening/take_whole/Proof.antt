@@ -1,23 +1,9 @@
-use native.Mathlib.Omega.{arith}
-use mathlib.Core.Path.{sym, _∙_}
+use Rattle.walks.proofs.Words.{arith, sym, _∙_, needs}
 use Rattle.capsule.proofs.Planning.{forwards-role, gathers-limit}
 use Rattle.capsule.proofs.Verdicts.{accepts}
 use Rattle.capsule.proofs.ShortWays.{whole-cut, whole-taken}
-use borrow.Author.Needs.{needs}
 use Rattle.capsule.proofs.opening.Opening.take_whole.Statement.{statement}
 use Rattle.capsule.proofs.opening.Opening.take_whole.Tie as tie
-
--- src/short.rt:81:13
-gathers-requires : tie.Need-gathers-requires
-gathers-requires c κs = search needs
-
--- src/short.rt:82:13
-forwards-requires : tie.Need-forwards-requires
-forwards-requires c κs = search needs
-
--- src/short.rt:83:21
-sub-room : tie.Need-sub-room
-sub-room c = search needs
 
 -- src/short.rt:86:13
 store-bytes-requires : tie.Need-store-bytes-requires
@@ -27,25 +13,9 @@ store-bytes-requires c κs = (c .before .before .before .before .before .before 
 forward-bytes-requires : tie.Need-forward-bytes-requires
 forward-bytes-requires c κs = (omega arith, omega arith, λ w. omega (arith, accepts _ _ _ _ _ (c .before .before .before .before .before .before .before .before .before .before .before .before .pre .0) .forwards (forwards-role _ _ (sym (c .before .before .before .before .before .before .forwards .ensures) ∙ w))))
 
--- src/short.rt:92:23
-sub-t25 : tie.Need-sub-t25
-sub-t25 c = search needs
-
--- src/short.rt:88:13
-same-length : tie.Need-same-length
-same-length c = search needs
-
--- src/short.rt:88:13
-same-length-2 : tie.Need-same-length-2
-same-length-2 c = search needs
-
 -- src/short.rt:88:13
 returns : tie.Need-returns
 returns c = whole-cut _ _ _ _ _ _ (c .before .before .before .before .before .before .before .before .before .before .before .before .before .before .before .pre .1) (c .before .before .before .before .before .before .before .before .before .before .before .before .before .before .before .pre .2) (c .before .before .before .before .before .before .before .before .before .before .before .before .before .before .shared-slice-known .given 2 .fits) (c .before .before .before .before .before .before .before .before .before .before .before .before .before .before .before .pre .0) _ _ (c .before .before .before .before .before .before .before .before .before .before .gathers .ensures) (c .before .before .before .before .before .before .before .before .before .forwards .ensures) _ _ _ (c .before .before .before .before .before .before .before .before .if1 .taken) (c .before .before .before .before .before .before .store-bytes .ensures) (c .before .before .forward-bytes .ensures)
-
--- src/short.rt:95:19
-add-end : tie.Need-add-end
-add-end c = search needs
 
 -- src/short.rt:96:9
 store-bytes-requires-2 : tie.Need-store-bytes-requires-2
@@ -55,18 +25,6 @@ store-bytes-requires-2 c κs = (omega arith, omega (arith, c .before .before .be
 forward-bytes-requires-2 : tie.Need-forward-bytes-requires-2
 forward-bytes-requires-2 c κs = (omega (arith, c .before .before .before .before .before .before .before .before .before .before .before .before .pre .3, c .before .before .before .before .before .if1 .left), omega arith, λ w. omega (arith, c .before .before .before .before .before .before .before .before .before .before .before .before .pre .3, c .before .before .before .before .before .if1 .left, accepts _ _ _ _ _ (c .before .before .before .before .before .before .before .before .before .before .before .before .pre .0) .forwards (forwards-role _ _ (sym (c .before .before .before .before .before .before .forwards .ensures) ∙ w))))
 
--- src/short.rt:101:21
-report-requires : tie.Need-report-requires
-report-requires c κs = search needs
-
--- src/short.rt:68:5
-same-length-3 : tie.Need-same-length-3
-same-length-3 c = search needs
-
--- src/short.rt:68:5
-same-length-4 : tie.Need-same-length-4
-same-length-4 c = search needs
-
 -- src/short.rt:68:5
 returns-2 : tie.Need-returns-2
 returns-2 c = whole-taken _ _ _ _ _ _ (c .before .before .before .before .before .before .before .before .before .before .before .before .before .before .before .before .pre .1) (c .before .before .before .before .before .before .before .before .before .before .before .before .before .before .before .before .pre .2) (c .before .before .before .before .before .before .before .before .before .before .before .before .before .before .before .shared-slice-known .given 2 .fits) (c .before .before .before .before .before .before .before .before .before .before .before .before .before .before .before .before .pre .0) _ _ (c .before .before .before .before .before .before .before .before .before .before .before .gathers .ensures) (c .before .before .before .before .before .before .before .before .before .before .forwards .ensures) _ _ _ (c .before .before .before .before .before .before .before .before .before .if1 .left) _ (c .report .ensures) (c .before .before .before .before .before .before .before .store-bytes2 .ensures) (c .before .before .before .forward-bytes2 .ensures)
@@ -75,19 +33,19 @@ pub take-whole-spec : {M : Type 1} → statement M
 take-whole-spec =
     tie.close
     (tie.spec
-    gathers-requires
-    forwards-requires
-    sub-room
+    (λ c κs. search needs)
+    (λ c κs. search needs)
+    (λ c. search needs)
     store-bytes-requires
     forward-bytes-requires
-    sub-t25
-    same-length
-    same-length-2
+    (λ c. search needs)
+    (λ c. search needs)
+    (λ c. search needs)
     returns
-    add-end
+    (λ c. search needs)
     store-bytes-requires-2
     forward-bytes-requires-2
-    report-requires
-    same-length-3
-    same-length-4
+    (λ c κs. search needs)
+    (λ c. search needs)
+    (λ c. search needs)
     returns-2)

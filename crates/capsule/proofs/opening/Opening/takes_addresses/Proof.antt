@@ -1,7 +1,5 @@
-use mathlib.Core.Path.{sym, _∙_}
-use borrow.Author.Tests.{not-true, not-false}
+use Rattle.walks.proofs.Words.{sym, _∙_, not-true, not-false, needs}
 use Rattle.capsule.proofs.Kinding.{none-taken, type-taken, zero-type, type-to-three}
-use borrow.Author.Needs.{needs}
 use Rattle.capsule.proofs.opening.Opening.takes_addresses.Statement.{statement}
 use Rattle.capsule.proofs.opening.Opening.takes_addresses.Tie as tie
 

@@ -1,10 +1,7 @@
-use native.Mathlib.Omega.{arith}
-use Prim.Native.Nat.{_≤_}
-use lib.ListN.{length}
+use Rattle.walks.proofs.Words.{arith, _≤_, length, needs}
 use Rattle.capsule.proofs.Planning.{Fits, plan-fits, held-few}
 use Rattle.capsule.proofs.Moving.{takes}
 use Rattle.capsule.proofs.Verdicts.{Accepts, accepts}
-use borrow.Author.Needs.{needs}
 use Rattle.capsule.proofs.reader.Reader.take.Statement.{statement}
 use Rattle.capsule.proofs.reader.Reader.take.Tie as tie
 
@@ -18,18 +15,6 @@ held c = rw (c .held-of .ensures) (held-few _ _ (accepted (c .before .before .be
 fits : (c : tie.After-plan-of) → Fits (c .before .before .before .before .before .before .before .args .self .opening) (c .before .before .before .before .before .before .before .args .piece .now) (c .plan-of .result)
 fits c = rw (c .plan-of .ensures) (plan-fits _ _ _ (accepted (c .before .before .before .before .before .before .before) .phase))
 
--- src/reader.rt:200:13
-held-of-requires : tie.Need-held-of-requires
-held-of-requires c κs = search needs
-
--- src/reader.rt:201:13
-plan-of-requires : tie.Need-plan-of-requires
-plan-of-requires c κs = accepted (c .before .before .before .before .before .before) .phase
-
--- src/reader.rt:202:9
-store-bytes-requires : tie.Need-store-bytes-requires
-store-bytes-requires c κs = let f = fits (c .before) in (f .starts, f .within, λ s. omega (arith, f .stores s, accepted (c .before .before .before .before .before .before .before .before) .gathers))
-
 -- src/reader.rt:210:9
 store-bytes-requires-2 : tie.Need-store-bytes-requires-2
 store-bytes-requires-2 c κs = let f = fits (c .before .before .before .before .before) in (f .starts, f .within, λ s. omega (arith, f .keeps s, accepted (c .before .before .before .before .before .before .before .before .before .before .before .before) .keeps (f .opts s)))
@@ -37,26 +22,6 @@ store-bytes-requires-2 c κs = let f = fits (c .before .before .before .before .
 -- src/reader.rt:218:13
 forward-bytes-requires : tie.Need-forward-bytes-requires
 forward-bytes-requires c κs = let f = fits (c .before .before .before .before .before .before .before .before .before) in let h = held (c .before .before .before .before .before .before .before .before .before .before) in (f .within, omega arith, λ w. omega (arith, f .within, accepted (c .before .before .before .before .before .before .before .before .before .before .before .before .before .before .before .before) .forwards (f .forwards w)))
-
--- src/reader.rt:221:13
-judge-requires : tie.Need-judge-requires
-judge-requires c κs = search needs
-
--- src/reader.rt:222:13
-is-last-requires : tie.Need-is-last-requires
-is-last-requires c κs = search needs
-
--- src/reader.rt:194:5
-same-length : tie.Need-same-length
-same-length c = search needs
-
--- src/reader.rt:194:5
-same-length-2 : tie.Need-same-length-2
-same-length-2 c = search needs
-
--- src/reader.rt:194:5
-same-length-3 : tie.Need-same-length-3
-same-length-3 c = search needs
 
 -- src/reader.rt:194:5
 returns : tie.Need-returns
@@ -66,14 +31,14 @@ pub take-spec : {M : Type 1} → statement M
 take-spec =
     tie.close
     (tie.spec
-    held-of-requires
-    plan-of-requires
-    store-bytes-requires
+    (λ c κs. search needs)
+    (λ c κs. accepted (c .before .before .before .before .before .before) .phase)
+    (λ c κs. let f = fits (c .before) in (f .starts, f .within, λ s. omega (arith, f .stores s, accepted (c .before .before .before .before .before .before .before .before) .gathers)))
     store-bytes-requires-2
     forward-bytes-requires
-    judge-requires
-    is-last-requires
-    same-length
-    same-length-2
-    same-length-3
+    (λ c κs. search needs)
+    (λ c κs. search needs)
+    (λ c. search needs)
+    (λ c. search needs)
+    (λ c. search needs)
     returns)

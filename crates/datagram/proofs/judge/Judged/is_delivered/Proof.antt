@@ -1,7 +1,6 @@
 -- `Judged::is_delivered`, by the nine answers. Assumes nothing.
-use mathlib.Core.Path.{sym, ap}
+use Rattle.walks.proofs.Words.{sym, ap, needs}
 use Rattle.datagram.specs.Judging.{isDelivered}
-use borrow.Author.Needs.{needs}
 use Rattle.datagram.proofs.judge.Judged.is_delivered.Statement.{statement}
 use Rattle.datagram.proofs.judge.Judged.is_delivered.Tie as tie
 

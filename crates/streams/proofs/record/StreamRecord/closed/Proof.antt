@@ -1,7 +1,6 @@
 -- `StreamRecord::closed`, by what `frees` and `with_closed` promise. Assumes nothing.
-use mathlib.Core.Path.{sym, _∙_}
+use Rattle.walks.proofs.Words.{sym, _∙_, needs}
 use Rattle.streams.specs.Records.{closedSide}
-use borrow.Author.Needs.{needs}
 use Rattle.streams.proofs.record.StreamRecord.closed.Statement.{statement}
 use Rattle.streams.proofs.record.StreamRecord.closed.Tie as tie
 

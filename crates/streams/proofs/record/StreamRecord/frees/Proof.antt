@@ -1,8 +1,6 @@
 -- `StreamRecord::frees`, by `frees-receive` and `frees-send`: closing a side leaves the other as it is. Assumes nothing.
-use mathlib.Core.Path.{ap, _∙_}
-use mathlib.Core.Bool.{not}
+use Rattle.walks.proofs.Words.{ap, _∙_, not, needs}
 use Rattle.streams.proofs.Flags.{frees-receive, frees-send}
-use borrow.Author.Needs.{needs}
 use Rattle.streams.proofs.record.StreamRecord.frees.Statement.{statement}
 use Rattle.streams.proofs.record.StreamRecord.frees.Tie as tie
 

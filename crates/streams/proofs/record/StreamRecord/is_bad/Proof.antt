@@ -1,9 +1,7 @@
 -- `StreamRecord::is_bad`, by the ways in which `Flags` has a record bad. Assumes nothing.
-use mathlib.Core.Path.{sym, ap, _∙_}
-use mathlib.Core.Bool.{true, false, not}
+use Rattle.walks.proofs.Words.{sym, ap, _∙_, true, false, not, needs}
 use Rattle.wire.specs.Units.{largestQuarter}
 use Rattle.streams.proofs.Flags.{quarter-large, free-bad, sides-bad}
-use borrow.Author.Needs.{needs}
 use Rattle.streams.proofs.record.StreamRecord.is_bad.Statement.{statement}
 use Rattle.streams.proofs.record.StreamRecord.is_bad.Tie as tie
 

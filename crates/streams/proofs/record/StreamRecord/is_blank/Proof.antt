@@ -1,8 +1,5 @@
 -- `StreamRecord::is_blank`, by the test of its quarter. Assumes nothing.
-use mathlib.Core.Path.{sym, ap}
-use mathlib.Core.Bool.{Bool, _&&_}
-use lib.Dec.{eqb}
-use borrow.Author.Tests.{ne-eqb, eq-eqb}
+use Rattle.walks.proofs.Words.{sym, ap, Bool, _&&_, eqb, ne-eqb, eq-eqb}
 use Rattle.streams.specs.Records.{isBlank}
 use Rattle.streams.proofs.record.StreamRecord.is_blank.Statement.{statement}
 use Rattle.streams.proofs.record.StreamRecord.is_blank.Tie as tie

@@ -1,10 +1,7 @@
 -- `StreamRecord::with_closed`, by a flag that is clear already, or is cleared by a difference that does not wrap. Assumes nothing.
-use mathlib.Core.Path.{sym, _∙_}
-use native.Mathlib.Omega.{arith}
-use borrow.Author.Tests.{not-true, not-false}
+use Rattle.walks.proofs.Words.{sym, _∙_, arith, not-true, not-false, needs}
 use Rattle.streams.specs.Records.{withClosed}
 use Rattle.streams.proofs.Flags.{clear-already, cleared, set-odd}
-use borrow.Author.Needs.{needs}
 use Rattle.streams.proofs.record.StreamRecord.with_closed.Statement.{statement}
 use Rattle.streams.proofs.record.StreamRecord.with_closed.Tie as tie
 
