@@ -7,11 +7,11 @@ use Rattle.wire.specs.declared.varint.Written.the-variants.{Refused, Wrote}
 use Rattle.wire.specs.Bytes.{Bytes, num}
 use Rattle.wire.specs.Writing.{Writing, writing, refuses, writeAt}
 use Rattle.wire.proofs.Numbers.{bytes-take, bytes-drop, num-lt}
-use Rattle.capsule.specs.declared.opening.Opening.{Opening}
-use Rattle.capsule.specs.declared.opening.Kind.the-variants.{Address}
-use Rattle.capsule.specs.declared.opening.Report.the-variants.{AddressDelivered}
+use Rattle.opening.specs.declared.Opening.{Opening}
+use Rattle.opening.specs.declared.Kind.the-variants.{Address}
+use Rattle.opening.specs.declared.Report.the-variants.{AddressDelivered}
 use Rattle.capsule.specs.Grammar.{parts}
-use Rattle.capsule.specs.Kinds.{opted, kindOf, extentBy, extentOf, reportBy, reportOf, judged}
+use Rattle.opening.specs.Kinds.{opted, kindOf, extentBy, extentOf, reportBy, reportOf, judged}
 use Rattle.capsule.specs.Book.{reported}
 use Rattle.capsule_laws.proofs.Plain.{by-the-grammar}
 use Rattle.addresses.specs.Addresses.{assign, request, route, isAddressType, longestAddressValue, widthOf, allOf, goodEntry, goodRequests, goodRanges, wellFormed}

@@ -14,10 +14,10 @@ use Rattle.wire.specs.declared.varint.Written.the-variants.{Refused, Wrote}
 use Rattle.wire.specs.Bytes.{Bytes}
 use Rattle.wire.specs.Varint.{largest, readVarint}
 use Rattle.wire.specs.Writing.{Writing, writing}
-use Rattle.capsule.specs.declared.opening.Opening.{Opening}
-use Rattle.capsule.specs.declared.opening.Report.the-variants.{AddressDelivered}
+use Rattle.opening.specs.declared.Opening.{Opening}
+use Rattle.opening.specs.declared.Report.the-variants.{AddressDelivered}
 use Rattle.capsule.specs.Grammar.{inType, Parts, parts}
-use Rattle.capsule.specs.Kinds.{opted}
+use Rattle.opening.specs.Kinds.{opted}
 use Rattle.capsule.specs.Book.{partsFor, reported}
 use Rattle.addresses.specs.Addresses.{assign, request, route, longestAddressValue, widthOf, Step, entries, allOf, Entry, entryAt, goodEntry, goodRequests, Range, rangeAt, goodRanges, wellFormed}
 use Rattle.addresses.specs.Encoding.{entryBytes, rangeBytes, valueBytes}

@@ -12,7 +12,7 @@ ghost use Rattle.address_writer.specs.Rows.{littleEndian, entryOf, range
 ghost use Rattle.address_writer.specs.Writer.{idFits, writeValue, writeAddresses, writeRoutes};
 ghost use Rattle.address_writer.specs.Putting.{Put, recordSize, recordBytes, valueIn, Gathered};
 use addresses::well_formed;
-use capsule::opening::Kind;
+use opening::Kind;
 use refusals::Refusal;
 use wire::varint::Varint;
 use wire::varint::Written;

@@ -9,8 +9,8 @@ use Rattle.wire.specs.Units.{isRequest, largestQuarter, quarterOf, streamOf}
 use Rattle.addresses.specs.Addresses.{isAddressType, longestAddressValue, widthOf, ahead, onwards, entriesBy, entries, allOf, areGood, addressAt, identified, entryAt, clearBeyond, goodEntry, asks, goodRequests, rangeAt, goodRange, before, inOrder, disjoint, apart, allApart, goodRanges, goodValue, wellFormed}
 use Rattle.addresses.specs.Cases.{many}
 use Rattle.capsule.specs.Grammar.{frontBy, capsuleAt, cutBy, partsBy}
-use Rattle.capsule.specs.Kinds.{optedBy, opted, kindOf, extentBy, extentOf, reportBy, reportOf, judged, finishes, finishesIn, onlyDelivered, forwardsBy, forwards, gathersBy, gathers, keepsBy, keeps}
-use Rattle.capsule.specs.Calls.{outputVerdict, addressesVerdict, lentVerdict, run}
+use Rattle.opening.specs.Kinds.{optedBy, opted, kindOf, extentBy, extentOf, reportBy, reportOf, judged, finishes, onlyDelivered, forwardsBy, forwards, gathersBy, gathers, keepsBy, keeps}
+use Rattle.capsule.specs.Calls.{outputVerdict, addressesVerdict, lentVerdict, run, finishesIn}
 use Rattle.capsule.specs.declared.reader.Verdict.the-variants.{Accepted, Refused}
 use Rattle.capsule.specs.Book.{partsFor, onlyIf, fromCapsules, fromTail, fromParts, forwarded, firstOf, completes, append, reported, endedBy, payloadBy, gained, endOf, newBook, bookVerdict, bookFeed, bookClose, bookCall}
 use Rattle.capsule.specs.Reader.{fresh, isOpening, openOf, isMakeablePhase, isMakeable, verdictOf, planValue, planHead, planLength, planType, planOf, heldOf, wrote, stored, fedBy, takeOf, feedBy, feedOf, endAt, closeOf, lengthOf, judgedIn, frontOf, feedReply, closeReply, readerCall}

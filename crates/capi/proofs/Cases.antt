@@ -6,8 +6,8 @@ use Rattle.wire.specs.Partial.{partialOf, heldBytes, starts, isPartial, takenOf
 use Rattle.wire.specs.Units.{isRequest, largestQuarter, quarterOf, streamOf}
 use Rattle.addresses.specs.Addresses.{isAddressType, widthOf, ahead, onwards, entriesBy, entries, allOf, areGood, addressAt, identified, entryAt, clearBeyond, goodEntry, goodRequests, rangeAt, goodValue, longestAddressValue, wellFormed}
 use Rattle.addresses.specs.Handing.{answerFor, answerAt, padded, addressOf, blankAddress, addressAnswer, nextAddress, rangeOf, blankRange, rangeAnswer, nextRange}
-use Rattle.capsule.specs.Kinds.{optedBy, opted, kindOf, extentBy, extentOf, reportBy, reportOf, judged, finishes, finishesIn, forwardsBy, forwards, gathersBy, gathers, keepsBy, keeps}
-use Rattle.capsule.specs.Calls.{outputVerdict, addressesVerdict, lentVerdict}
+use Rattle.opening.specs.Kinds.{optedBy, opted, kindOf, extentBy, extentOf, reportBy, reportOf, judged, finishes, forwardsBy, forwards, gathersBy, gathers, keepsBy, keeps}
+use Rattle.capsule.specs.Calls.{outputVerdict, addressesVerdict, lentVerdict, finishesIn}
 use Rattle.capsule.specs.Book.{onlyIf}
 use Rattle.capsule.specs.Reader.{lengthOf, judgedIn, isOpening, openOf, isMakeablePhase, isMakeable, verdictOf, planValue, planHead, planLength, planType, planOf, heldOf, wrote, stored, fedBy, takeOf, feedBy, feedOf, endAt, closeOf}
 use Rattle.streams.specs.Records.{flag, bothClosed, isBlank, isBadRecord, holds, without, withClosed, closedSide}
@@ -17,19 +17,22 @@ use Rattle.look.specs.Looking.{bufferOf, storedIn, placeOf, sightOf, lookOf}
 use Rattle.listing.specs.Claims.{asClosed}
 use Rattle.http.specs.Errors.{number}
 use Rattle.http.specs.Ties.{closeError, reportError, judgedError}
-use Rattle.capi.specs.Numbers.{flagOf, roleOf, sideOf, statusOf, bitOf, errorNumber, endNumber}
-use Rattle.capi.specs.Varint.{varintAnswer, writtenAnswer}
-use Rattle.capi.specs.Words.{readerMark, roleWord, roleIn, settingsNumber, draftIn, addressesIn, phaseWords, wordsOf, phaseIn, withPhase, readerIn}
+use Rattle.crossing.specs.Numbers.{flagOf, roleOf, sideOf, statusOf, bitOf, errorNumber, endNumber}
+use Rattle.crossing.specs.Varint.{varintAnswer, writtenAnswer}
+use Rattle.crossing.specs.Words.{readerMark, roleWord, roleIn, settingsNumber, draftIn, addressesIn, phaseWords, wordsOf, phaseIn, withPhase, readerIn}
 use Rattle.capi.specs.Reader as reader
-use Rattle.capi.specs.Reader.{openedAt, openWords, reportNumber, typeOf, fedReport, fedTook, fedAnswer, wordsFed, feedLoaded, feedWords, closeRefusal, closedAnswer, wordsClosed, closedBy, closeLoaded, closeWords}
-use Rattle.capi.specs.Sight.{bufferNumber, sightAnswer, lookedAnswer, lookWords}
-use Rattle.capi.specs.Identifiers.{quarterAnswer, streamAnswer}
-use Rattle.capi.specs.OneShot.{endingNumber, listingAnswer}
-use Rattle.capi.specs.Table as table
-use Rattle.capi.specs.Table.{openedAnswer, openTable, closeTable}
-use Rattle.capi.specs.Frames.{orZero, deliveredAnswer, judgedAnswer}
-use Rattle.capi.specs.AddressCapsules.{foundNumber, addressFound, routeFound}
-use Rattle.capi.specs.Messages.{messageOf, actionAnswer, translationAnswer}
+use Rattle.crossing.specs.Reader.{reportNumber, typeOf, fedReport, fedTook, fedAnswer, closeRefusal, closedAnswer}
+use Rattle.capi.specs.Reader.{openedAt, openWords, wordsFed, feedLoaded, feedWords, wordsClosed, closedBy, closeLoaded, closeWords}
+use Rattle.crossing.specs.Sight.{bufferNumber, sightAnswer, lookedAnswer}
+use Rattle.capi.specs.Sight.{lookWords}
+use Rattle.crossing.specs.Identifiers.{quarterAnswer, streamAnswer}
+use Rattle.crossing.specs.OneShot.{endingNumber, listingAnswer}
+use Rattle.crossing.specs.Table as table
+use Rattle.crossing.specs.Table.{openedAnswer}
+use Rattle.capi.specs.Table.{openTable, closeTable}
+use Rattle.crossing.specs.Frames.{orZero, deliveredAnswer, judgedAnswer}
+use Rattle.crossing.specs.AddressCapsules.{foundNumber, addressFound, routeFound}
+use Rattle.crossing.specs.Messages.{messageOf, actionAnswer, translationAnswer}
 use Rattle.wire.specs.Varint as varint
 use Rattle.wire.specs.Writing.{refuses, writeAt}
 use Rattle.streams.specs.Tables.{standEntry, standingOf}

@@ -23,11 +23,12 @@ use Rattle.wire.proofs.varint.Written.Laws as I′
 use Rattle.streams.proofs.Elements.{at-local}
 use Rattle.walks.proofs.Calling.{Fact, Ensures, calls-ensuring}
 use Rattle.walks.proofs.Passing.{taking, takes-last}
-use Rattle.capi.specs.declared.varint.WrittenAnswer.{WrittenAnswer}
-use Rattle.capi.specs.Varint.{writtenAnswer, wrote, wroteBy}
+use Rattle.crossing.specs.declared.varint.WrittenAnswer.{WrittenAnswer}
+use Rattle.crossing.specs.Varint.{writtenAnswer}
+use Rattle.capi.specs.Varint.{wrote, wroteBy}
 use Rattle.capi.specs.Table.{streamId}
-use Rattle.capi.proofs.varint.WrittenAnswer as VA
-use Rattle.capi.proofs.varint.WrittenAnswer.Laws as VA′
+use Rattle.crossing.proofs.varint.WrittenAnswer as VA
+use Rattle.crossing.proofs.varint.WrittenAnswer.Laws as VA′
 
 -- ---- plain data, of machine type `ty`
 

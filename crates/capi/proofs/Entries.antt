@@ -3,7 +3,7 @@ use Rattle.walks.proofs.Words.{ℕ, _<_, _≡_, refl, List, arith, length, drop
 use Rattle.addresses.specs.Addresses.{Step, done, malformed, next, entryAt, rangeAt}
 use Rattle.addresses.specs.Handing.{answerFor, answerAt, addressOf, blankAddress, addressAnswer, nextAddress, rangeOf, blankRange, rangeAnswer, nextRange}
 use Rattle.addresses.proofs.Reading.{entry-shrinks, range-shrinks}
-use Rattle.capi.specs.AddressCapsules.{foundNumber, cursor, addressFound, routeFound}
+use Rattle.crossing.specs.AddressCapsules.{foundNumber, cursor, addressFound, routeFound}
 use Rattle.capi.specs.Claims.{GoesOn, EntriesGoOn}
 
 module _ {A B : Type 0} (read : List ℕ → Step A) (shrinks : (v rest : List ℕ) (e : A) → read v ≡ next e rest → length rest < length v) (form : A → B) (blank : B) (v : List ℕ) (at : ℕ) where

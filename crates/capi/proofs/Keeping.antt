@@ -11,9 +11,9 @@ use Rattle.capsule.specs.declared.reader.Phase.the-variants.{InType, InLength, 
 use Rattle.capsule.specs.declared.reader.Reader.{Reader}
 use Rattle.capsule.specs.declared.reader.Opened.{Opened}
 use Rattle.capsule.specs.declared.reader.Opened.the-variants as openedAs
-use Rattle.capsule.specs.declared.opening.Role.{Role}
-use Rattle.capsule.specs.declared.opening.Opening.{Opening}
-use Rattle.capsule.specs.declared.opening.Report.the-variants.{Delivered, Dropped, Skipped, Passed, AddressDelivered, Malformed}
+use Rattle.opening.specs.declared.Role.{Role}
+use Rattle.opening.specs.declared.Opening.{Opening}
+use Rattle.opening.specs.declared.Report.the-variants.{Delivered, Dropped, Skipped, Passed, AddressDelivered, Malformed}
 use Rattle.capsule.specs.declared.reader.Ended.{Ended}
 use Rattle.capsule.specs.declared.reader.Ended.the-variants.{Nothing, Capsule}
 use Rattle.capsule.specs.declared.reader.FeedAnswer.{FeedAnswer}
@@ -27,18 +27,21 @@ use Rattle.capsule_laws.proofs.Lists.{made-book, open-fresh, fresh-book, fresh-
 use Rattle.capsule_laws.proofs.Makeable.{stays-makeable, calls-makeable, refused-unchanged}
 use Rattle.http.specs.Errors.{number}
 use Rattle.http.specs.Ties.{reportError}
-use Rattle.capi.specs.declared.words.Loaded.{Loaded}
-use Rattle.capi.specs.declared.words.Loaded.the-variants as loaded
-use Rattle.capi.specs.Numbers.{roleOf, flagOf, bitOf, errorNumber}
-use Rattle.capi.specs.Words.{readerMark, wordsOf, readerIn}
-use Rattle.capi.specs.Reader.{openedAt, openWords, FeedDone, reportNumber, fedReport, fedTook, fedAnswer, wordsFed, fedBy, feedLoaded, feedWords, CloseDone, closedAnswer, wordsClosed, closeRefusal, closedBy, closeLoaded, closeWords}
+use Rattle.crossing.specs.declared.words.Loaded.{Loaded}
+use Rattle.crossing.specs.declared.words.Loaded.the-variants as loaded
+use Rattle.crossing.specs.Numbers.{roleOf, flagOf, bitOf, errorNumber}
+use Rattle.crossing.specs.Claims.{HaveIsByte}
+use Rattle.crossing.specs.Words.{readerMark, wordsOf, readerIn}
+use Rattle.crossing.specs.Reader.{reportNumber, fedReport, fedTook, fedAnswer, closedAnswer, closeRefusal}
+use Rattle.capi.specs.Reader.{openedAt, openWords, FeedDone, wordsFed, fedBy, feedLoaded, feedWords, CloseDone, wordsClosed, closedBy, closeLoaded, closeWords}
 use Rattle.look.specs.declared.Looked.the-variants.{Refused}
 use Rattle.look.specs.Looking.{lookOf}
 use Rattle.look.specs.declared.Place.{Place}
 use Rattle.look.specs.declared.Place.the-variants as place
-use Rattle.capi.specs.Sight.{sightAnswer, lookedAnswer, lookWords}
-use Rattle.capi.specs.Claims.{HaveIsByte, LookKept, NotZero, OpenedSo, RefusedReaderLeaves, ZeroWordsRefused, MalformedError, OpenKept, FeedKept, CloseKept, ReaderKept}
-use Rattle.capi.proofs.StoredForm.{stored-read}
+use Rattle.crossing.specs.Sight.{sightAnswer, lookedAnswer}
+use Rattle.capi.specs.Sight.{lookWords}
+use Rattle.capi.specs.Claims.{LookKept, NotZero, OpenedSo, RefusedReaderLeaves, ZeroWordsRefused, MalformedError, OpenKept, FeedKept, CloseKept, ReaderKept}
+use Rattle.crossing.proofs.StoredForm.{stored-read}
 use Rattle.capi.proofs.Nonzero.{numbered-refusals}
 
 -- ---- a refusal leaves words and buffers

@@ -1,4 +1,3 @@
-pub mod StoredForm
 pub mod Keeping
 pub mod Throughout
 pub mod Entries

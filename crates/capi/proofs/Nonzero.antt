@@ -11,14 +11,14 @@ use Rattle.wire.specs.declared.varint.Varint.the-variants.{Incomplete, Whole}
 use Rattle.wire.specs.Units.{isRequest, largestQuarter, quarterOf}
 use Rattle.wire.specs.Varint.{largest, readVarint, encode}
 use Rattle.wire.specs.Writing.{Writing, refuses, writeAt, writeVarint}
-use Rattle.capsule.specs.declared.opening.Role.{Role}
-use Rattle.capsule.specs.declared.opening.Role.the-variants.{Endpoint, Intermediary}
+use Rattle.opening.specs.declared.Role.{Role}
+use Rattle.opening.specs.declared.Role.the-variants.{Endpoint, Intermediary}
 use Rattle.capsule.specs.declared.reader.Phase.{Phase}
 use Rattle.capsule.specs.declared.reader.Phase.the-variants.{InType, InLength, InValue}
 use Rattle.capsule.specs.declared.reader.Reader.{Reader}
 use Rattle.capsule.specs.declared.reader.Verdict.{Verdict}
 use Rattle.capsule.specs.declared.reader.Verdict.the-variants as verdict
-use Rattle.capsule.specs.Kinds.{opted}
+use Rattle.opening.specs.Kinds.{opted}
 use Rattle.capsule.specs.Calls.{Lent, outputVerdict, addressesVerdict, lentVerdict}
 use Rattle.capsule.specs.declared.reader.Closed.{Closed}
 use Rattle.capsule.specs.Reader.{opening, isOpening, openOf, isMakeable, verdictOf, takeOf, feedBy, feedOf, fedBy, endAt, closeOf}
@@ -41,7 +41,7 @@ use Rattle.look.specs.Looking.{lookOf}
 use Rattle.listing.specs.Listing.{longestBuffer, listingOf}
 use Rattle.http.specs.Errors.{Error}
 use Rattle.http.specs.Translation.{Version, errors, versions, nth, answer, translated}
-use Rattle.capi.specs.Identifiers.{quarterAnswer}
+use Rattle.crossing.specs.Identifiers.{quarterAnswer}
 use Rattle.capi.specs.Claims.{NotZero, OpenedSo, FedSo, ClosedSo, LookedSo, ListedSo, WrittenSo, OpeningSo, StandingSo, ClosingSo, QuarterSo, JudgedSo, TranslatedSo, NumberedRefusals}
 
 no : (n : ℕ) → NotZero (refusal (suc n))

@@ -19,8 +19,9 @@ use Rattle.addresses.specs.Addresses.{route, allOf, wellFormed}
 use Rattle.addresses.specs.Encoding.{entryBytes, rangeBytes, valueBytes}
 use Rattle.address_writer.specs.Rows.{entrySize, rangeSize, isWhole, entriesIn, rangesIn}
 use Rattle.address_writer.specs.Writer.{capsuleOf, writeValue, idFits, writeAddresses, writeRoutes}
-use Rattle.capi.specs.Varint.{writtenAnswer, wroteBy}
-use Rattle.capi.specs.Frames.{deliveredAnswer, judgedAnswer}
+use Rattle.crossing.specs.Varint.{writtenAnswer}
+use Rattle.capi.specs.Varint.{wroteBy}
+use Rattle.crossing.specs.Frames.{deliveredAnswer, judgedAnswer}
 use Rattle.capi.specs.Claims.{PayloadPart, RefusalLeaves, RefusedWriteLeaves}
 
 -- ---- the payload's part of the frame

@@ -11,11 +11,12 @@ use Rattle.capsule.specs.declared.reader.CloseAnswer.{CloseAnswer}
 use Rattle.capsule.specs.declared.reader.CloseAnswer.the-variants as closedAs
 use Rattle.capsule.specs.Calls.{Lent}
 use Rattle.capsule.specs.Reader.{feeding, feedOf, closeOf}
-use Rattle.capi.specs.declared.words.Loaded.the-variants.{Nothing, Is}
-use Rattle.capi.specs.declared.reader.FedAnswer.{FedAnswer}
-use Rattle.capi.specs.declared.reader.ClosedAnswer.{ClosedAnswer}
-use Rattle.capi.specs.Words.{wordsOf, readerIn}
-use Rattle.capi.specs.Reader.{fedRefused, fedTook, fedAnswer, wordsFed, fed, fedBy, feedLoaded, feedWords, closedAnswer, wordsClosed, closed, closedBy, closeLoaded, closeWords}
+use Rattle.crossing.specs.declared.words.Loaded.the-variants.{Nothing, Is}
+use Rattle.crossing.specs.declared.reader.FedAnswer.{FedAnswer}
+use Rattle.crossing.specs.declared.reader.ClosedAnswer.{ClosedAnswer}
+use Rattle.crossing.specs.Words.{wordsOf, readerIn}
+use Rattle.crossing.specs.Reader.{fedRefused, fedTook, fedAnswer, closedAnswer}
+use Rattle.capi.specs.Reader.{wordsFed, fed, fedBy, feedLoaded, feedWords, wordsClosed, closed, closedBy, closeLoaded, closeWords}
 
 module _ (ws p : List ℕ) (b : Lent) where
   pub feed-nothing : (a : FedAnswer) → readerIn ws ≡ Nothing → a ≡ fedRefused unmakeableState → fed a ws b ≡ feedWords ws p b

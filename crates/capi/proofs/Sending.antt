@@ -14,7 +14,8 @@ use Rattle.streams.proofs.Answering.{rows}
 use Rattle.walks.proofs.Calling.{Fact, Ensures}
 use Rattle.walks.proofs.Passing.{Param, datum, word, output, slots, values, passing, taking, clears, ends-owning, meets-passing}
 use Rattle.datagram.proofs.Outgoing.{sent}
-use Rattle.capi.specs.Varint.{writtenAnswer, wrote, wroteBy}
+use Rattle.crossing.specs.Varint.{writtenAnswer}
+use Rattle.capi.specs.Varint.{wrote, wroteBy}
 use Rattle.capi.specs.Table.{streamId}
 use Rattle.capi.proofs.frames.FrameTerms as L
 use Rattle.capi.proofs.frames.FrameTerms.Laws as L′

@@ -1,7 +1,7 @@
 -- Short ways on a reader in words. Assumes nothing.
-use Rattle.walks.proofs.Words.{ℕ, _+_, _-_, _≤_, _<_, _≡_, refl, sym, ap, _∙_, List, arith, length, getD, set}
-use Rattle.capsule.specs.declared.opening.Opening.{Opening}
-use Rattle.capsule.specs.declared.opening.Report.{Report}
+use Rattle.walks.proofs.Words.{ℕ, _-_, _≤_, _<_, _≡_, refl, sym, ap, _∙_, List, length, getD, set}
+use Rattle.opening.specs.declared.Opening.{Opening}
+use Rattle.opening.specs.declared.Report.{Report}
 use Rattle.capsule.specs.declared.reader.Ended.the-variants.{Nothing, Capsule}
 use Rattle.capsule.specs.declared.reader.FeedAnswer.the-variants as fedAs
 use Rattle.capsule.specs.declared.short.Whole.the-variants as wholeAs
@@ -10,42 +10,16 @@ use Rattle.capsule.specs.Calls.{Lent}
 use Rattle.capsule.specs.Reader.{fresh}
 use Rattle.capsule.specs.Short.{wholeFed, wholeOf, inValue, insideFed, insideOf}
 use Rattle.capsule.proofs.ShortWays.{whole-fed, whole-cut-fed, whole-not, inside-fed, inside-ended-fed, inside-not}
-use Rattle.capi.specs.declared.words.Loaded.the-variants.{Is}
-use Rattle.capi.specs.declared.words.Standing.the-variants.{Other, Between, Within}
-use Rattle.capi.specs.declared.reader.FedAnswer.{FedAnswer}
+use Rattle.crossing.specs.declared.words.Loaded.the-variants.{Is}
+use Rattle.crossing.specs.declared.reader.FedAnswer.{FedAnswer}
 use Rattle.capi.specs.declared.reader.Tried.{Tried}
 use Rattle.capi.specs.declared.reader.Tried.the-variants.{Not, Fed}
-use Rattle.capi.specs.Numbers.{flagOf}
-use Rattle.capi.specs.Words.{readerMark, phaseWords, wordsOf, phaseIn, withPhase, readerIn, openingIn}
-use Rattle.capi.specs.Reader.{fedReport, fedTook, FeedDone, fed, feedWords}
-use Rattle.capi.specs.Standing.{Stands, TriedRight}
-use Rattle.capi.proofs.StoredForm.{reads-so, read-as-stored}
+use Rattle.crossing.specs.Words.{phaseWords, wordsOf, readerIn, openingIn}
+use Rattle.crossing.specs.Reader.{fedReport, fedTook}
+use Rattle.capi.specs.Reader.{FeedDone, fed, feedWords}
+use Rattle.capi.specs.ShortWords.{TriedRight}
+use Rattle.crossing.proofs.StoredForm.{read-as-stored}
 use Rattle.capi.proofs.ReaderCalls.{feed-stored}
-
--- ---- where an open reader stands
-
-pub stands-other : (ws : List ℕ) → Stands ws Other
-unfolding Stands
-stands-other ws = tt
-
-module _ (ws : List ℕ) (low : readerMark ≤ getD ws 0 0) (high : getD ws 0 0 ≤ readerMark + 1) (b : getD ws 2 0 ≤ 3) (c : getD ws 7 0 ≡ 0) where
-  pub stands-between : getD ws 3 0 ≡ 0 → getD ws 4 0 ≡ 0 → getD ws 5 0 ≡ 0 → getD ws 6 0 ≡ 0 → Stands ws Between
-  unfolding Stands withPhase phaseIn openingIn flagOf
-  stands-between d e f g = sym (reads-so ws low high b (omega (arith, c)) (Is (fresh (openingIn ws))) (rw (c, d, e, f, g)))
-
-  pub stands-within : getD ws 3 0 ≡ 2 → Stands ws Within
-  unfolding Stands withPhase phaseIn openingIn flagOf
-  stands-within d = sym (reads-so ws low high b (omega (arith, c)) (Is (inValue (openingIn ws) (getD ws 4 0) (getD ws 5 0) (getD ws 6 0))) (rw (c, d)))
-
-pub between-reads : (ws : List ℕ) → Stands ws Between → readerIn ws ≡ Is (fresh (openingIn ws))
-unfolding Stands
-between-reads ws s = s
-
-pub within-reads : (ws : List ℕ) → Stands ws Within → readerIn ws ≡ Is (inValue (openingIn ws) (getD ws 4 0) (getD ws 5 0) (getD ws 6 0))
-unfolding Stands
-within-reads ws s = s
-
--- ---- what was tried
 
 -- of a reader within a value, one word says how many bytes are to come
 stored-left : (op : Opening) (t n left less : ℕ) → set (wordsOf (inValue op t n left)) 6 less ≡ wordsOf (inValue op t n less)

@@ -7,8 +7,8 @@ use Rattle.capsule.specs.State.{ofBook}
 use Rattle.capsule.specs.Reader.{opening, fresh, feedOf, closeOf, readerCall}
 use Rattle.capsule_laws.specs.Claims.{HandedOn}
 use Rattle.capsule_laws.proofs.Lists.{open-fresh, demand-3}
-use Rattle.capi.specs.Numbers.{roleOf, flagOf}
-use Rattle.capi.specs.Words.{wordsOf}
+use Rattle.crossing.specs.Numbers.{roleOf, flagOf}
+use Rattle.crossing.specs.Words.{wordsOf}
 use Rattle.capi.specs.Reader.{feedWords, closeWords}
 use Rattle.capi.specs.Claims.{fedIn, closedIn, wordsCall, runWords, numbersOf, runNumbers, Throughout, Demand3InWords}
 use Rattle.capi.proofs.Keeping.{open-kept, reader-kept}

@@ -12,7 +12,7 @@ use Rattle.wire.specs.declared.varint.Varint.the-variants.{Incomplete, Whole}
 use Rattle.wire.specs.declared.varint.Written.{Written}
 use Rattle.wire.specs.declared.varint.Written.the-variants as writtenAs
 use Rattle.wire.specs.Varint.{sizeOf, readVarint}
-use Rattle.capsule.specs.declared.opening.Report.the-variants.{Delivered, Dropped, Skipped, Passed, AddressDelivered, Malformed}
+use Rattle.opening.specs.declared.Report.the-variants.{Delivered, Dropped, Skipped, Passed, AddressDelivered, Malformed}
 use Rattle.capsule.specs.declared.reader.Ended.{Ended}
 use Rattle.capsule.specs.declared.reader.Ended.the-variants.{Nothing, Capsule}
 use Rattle.capsule.specs.declared.reader.FeedAnswer.{FeedAnswer}
@@ -50,20 +50,21 @@ use Rattle.addresses.specs.declared.Found.{Found}
 use Rattle.addresses.specs.declared.Found.the-variants as found
 use Rattle.addresses.specs.declared.NextAddress.{NextAddress}
 use Rattle.addresses.specs.declared.NextRange.{NextRange}
-use Rattle.capi.specs.declared.sight.LookAnswer.{LookAnswer}
-use Rattle.capi.specs.declared.frames.JudgedAnswer.{JudgedAnswer}
-use Rattle.capi.specs.Numbers.{bitOf, errorNumber, endNumber}
-use Rattle.capi.specs.Varint.{varintAnswer, writtenAnswer}
-use Rattle.capi.specs.Reader as reader
-use Rattle.capi.specs.Reader.{openedAt, reportNumber, typeOf, fedReport, fedTook, fedAnswer, closeRefusal}
-use Rattle.capi.specs.Table as table
-use Rattle.capi.specs.Table.{openedAnswer, foundAnswer}
-use Rattle.capi.specs.Frames.{orZero, deliveredAnswer, judgedAnswer}
-use Rattle.capi.specs.Sight.{bufferNumber, sightAnswer, lookedAnswer}
-use Rattle.capi.specs.Identifiers.{quarterAnswer, streamAnswer}
-use Rattle.capi.specs.OneShot.{endingNumber, listingAnswer}
-use Rattle.capi.specs.AddressCapsules.{foundNumber, addressFound, routeFound}
-use Rattle.capi.specs.Messages.{actionAnswer, translationAnswer}
+use Rattle.crossing.specs.declared.sight.LookAnswer.{LookAnswer}
+use Rattle.crossing.specs.declared.frames.JudgedAnswer.{JudgedAnswer}
+use Rattle.crossing.specs.Numbers.{bitOf, errorNumber, endNumber}
+use Rattle.crossing.specs.Varint.{varintAnswer, writtenAnswer}
+use Rattle.crossing.specs.Reader as reader
+use Rattle.crossing.specs.Reader.{reportNumber, typeOf, fedReport, fedTook, fedAnswer, closeRefusal}
+use Rattle.capi.specs.Reader.{openedAt}
+use Rattle.crossing.specs.Table as table
+use Rattle.crossing.specs.Table.{openedAnswer, foundAnswer}
+use Rattle.crossing.specs.Frames.{orZero, deliveredAnswer, judgedAnswer}
+use Rattle.crossing.specs.Sight.{bufferNumber, sightAnswer, lookedAnswer}
+use Rattle.crossing.specs.Identifiers.{quarterAnswer, streamAnswer}
+use Rattle.crossing.specs.OneShot.{endingNumber, listingAnswer}
+use Rattle.crossing.specs.AddressCapsules.{foundNumber, addressFound, routeFound}
+use Rattle.crossing.specs.Messages.{actionAnswer, translationAnswer}
 use Rattle.capi.specs.Claims.{NotZero, FedSo, ClosedSo, LookedSo, ListedSo, WrittenSo, OpeningSo, StandingSo, ClosingSo, JudgedSo, TranslatedSo}
 use Rattle.capi.specs.Told.{refusedOr, bitIn, errorIn, varintIn, writtenIn, endedIn, fedIn, closedIn, placeIn, lookedIn, quarterIn, streamIn, listedIn, openedIn, sideClosedIn, standingIn, ruleIn, judgedIn, translationIn, foundIn, addressIn, rangeIn, VarintSo, ErrorSo, AnswersTold, ElseZero}
 

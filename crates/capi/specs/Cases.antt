@@ -9,9 +9,9 @@ use Rattle.wire.specs.declared.varint.Varint.the-variants as read
 use Rattle.wire.specs.declared.varint.Written.the-variants as written
 use Rattle.wire.specs.Partial.{partial}
 use Rattle.wire.specs.Units.{quarterOf, streamOf}
-use Rattle.capsule.specs.declared.opening.Role.{Role}
-use Rattle.capsule.specs.declared.opening.Role.the-variants.{Endpoint, Intermediary}
-use Rattle.capsule.specs.declared.opening.Report.the-variants.{Delivered, Dropped, Skipped, Passed, AddressDelivered, Malformed}
+use Rattle.opening.specs.declared.Role.{Role}
+use Rattle.opening.specs.declared.Role.the-variants.{Endpoint, Intermediary}
+use Rattle.opening.specs.declared.Report.the-variants.{Delivered, Dropped, Skipped, Passed, AddressDelivered, Malformed}
 use Rattle.capsule.specs.declared.reader.Phase.{Phase}
 use Rattle.capsule.specs.declared.reader.Phase.the-variants.{InType, InLength, InValue}
 use Rattle.capsule.specs.declared.reader.Reader.{Reader}
@@ -39,35 +39,39 @@ use Rattle.http.specs.declared.translation.Action.the-variants as action
 use Rattle.http.specs.declared.translation.Translation.the-variants as translation
 use Rattle.addresses.specs.declared.Found.the-variants as found
 use Rattle.addresses.specs.Handing.{nextAddress, nextRange}
-use Rattle.capi.specs.declared.varint.VarintAnswer.{VarintAnswer}
-use Rattle.capi.specs.declared.varint.WrittenAnswer.{WrittenAnswer}
-use Rattle.capi.specs.declared.words.Loaded.the-variants as loaded
-use Rattle.capi.specs.declared.reader.FedAnswer.{FedAnswer}
-use Rattle.capi.specs.declared.reader.ClosedAnswer.{ClosedAnswer}
-use Rattle.capi.specs.declared.sight.LookAnswer.{LookAnswer}
-use Rattle.capi.specs.declared.identifiers.QuarterAnswer.{QuarterAnswer}
-use Rattle.capi.specs.declared.identifiers.StreamIdAnswer.{StreamIdAnswer}
-use Rattle.capi.specs.declared.one_shot.ListingAnswer.{ListingAnswer}
-use Rattle.capi.specs.declared.table.OpenedAnswer.{OpenedAnswer}
-use Rattle.capi.specs.declared.table.FoundAnswer.{FoundAnswer}
-use Rattle.capi.specs.declared.table.SideClosedAnswer.{SideClosedAnswer}
-use Rattle.capi.specs.declared.frames.JudgedAnswer.{JudgedAnswer}
-use Rattle.capi.specs.declared.messages.TranslationAnswer.{TranslationAnswer}
-use Rattle.capi.specs.declared.address_capsules.AddressFound.{AddressFound}
-use Rattle.capi.specs.declared.address_capsules.RouteFound.{RouteFound}
-use Rattle.capi.specs.Numbers.{flagOf, roleOf, sideOf, statusOf, bitOf}
-use Rattle.capi.specs.Varint.{Answered, varintAnswer, writtenAnswer, wrote, wroteBy}
-use Rattle.capi.specs.Words.{roleWord, wordsOf, readerIn}
+use Rattle.crossing.specs.declared.varint.VarintAnswer.{VarintAnswer}
+use Rattle.crossing.specs.declared.varint.WrittenAnswer.{WrittenAnswer}
+use Rattle.crossing.specs.declared.words.Loaded.the-variants as loaded
+use Rattle.crossing.specs.declared.reader.FedAnswer.{FedAnswer}
+use Rattle.crossing.specs.declared.reader.ClosedAnswer.{ClosedAnswer}
+use Rattle.crossing.specs.declared.sight.LookAnswer.{LookAnswer}
+use Rattle.crossing.specs.declared.identifiers.QuarterAnswer.{QuarterAnswer}
+use Rattle.crossing.specs.declared.identifiers.StreamIdAnswer.{StreamIdAnswer}
+use Rattle.crossing.specs.declared.one_shot.ListingAnswer.{ListingAnswer}
+use Rattle.crossing.specs.declared.table.OpenedAnswer.{OpenedAnswer}
+use Rattle.crossing.specs.declared.table.FoundAnswer.{FoundAnswer}
+use Rattle.crossing.specs.declared.table.SideClosedAnswer.{SideClosedAnswer}
+use Rattle.crossing.specs.declared.frames.JudgedAnswer.{JudgedAnswer}
+use Rattle.crossing.specs.declared.messages.TranslationAnswer.{TranslationAnswer}
+use Rattle.crossing.specs.declared.address_capsules.AddressFound.{AddressFound}
+use Rattle.crossing.specs.declared.address_capsules.RouteFound.{RouteFound}
+use Rattle.crossing.specs.Numbers.{flagOf, roleOf, sideOf, statusOf, bitOf}
+use Rattle.crossing.specs.Varint.{varintAnswer, writtenAnswer}
+use Rattle.capi.specs.Varint.{Answered, wrote, wroteBy}
+use Rattle.crossing.specs.Words.{roleWord, wordsOf, readerIn}
 use Rattle.capi.specs.Reader as reader
-use Rattle.capi.specs.Reader.{openWords, fedAnswer, feedWords, closedAnswer, closeWords}
-use Rattle.capi.specs.Sight.{lookedAnswer, lookWords}
-use Rattle.capi.specs.Identifiers.{quarterAnswer, streamAnswer}
-use Rattle.capi.specs.OneShot.{listingAnswer}
+use Rattle.crossing.specs.Reader.{fedAnswer, closedAnswer}
+use Rattle.capi.specs.Reader.{openWords, feedWords, closeWords}
+use Rattle.crossing.specs.Sight.{lookedAnswer}
+use Rattle.capi.specs.Sight.{lookWords}
+use Rattle.crossing.specs.Identifiers.{quarterAnswer, streamAnswer}
+use Rattle.crossing.specs.OneShot.{listingAnswer}
 use Rattle.capi.specs.Table as table
+use Rattle.crossing.specs.Table.{foundAnswer}
 use Rattle.capi.specs.Table.{streamId, openTable, closeTable}
-use Rattle.capi.specs.Frames.{judgedAnswer}
-use Rattle.capi.specs.AddressCapsules.{foundNumber, cursor, addressFound, routeFound}
-use Rattle.capi.specs.Messages.{messageOf, translationAnswer}
+use Rattle.crossing.specs.Frames.{judgedAnswer}
+use Rattle.crossing.specs.AddressCapsules.{foundNumber, cursor, addressFound, routeFound}
+use Rattle.crossing.specs.Messages.{messageOf, translationAnswer}
 
 -- ---- answers, their fields in the header's order
 
@@ -162,14 +166,14 @@ abbrev streams : Table
 streams = rec 0 0 ∷ rec 64 15 ∷ rec 5 11 ∷ []
 
 abbrev stands : Table → ℕ → FoundAnswer
-stands t id = table.foundAnswer (standingOf t (table.streamId id))
+stands t id = foundAnswer (standingOf t (table.streamId id))
 
 -- for stream 256, whose quarter 64 has two bytes, into four bytes
 abbrev header : ℕ → ℕ → ℕ → ℕ → Answered
 header peer path n place = wroteBy (writeFrameHeader streams (table.streamId 256) 1 peer path n (nines 4) place)
 
 pub record SendingCases : Type 0 where
-  pub standings : map table.foundAnswer (standing.Refused (refusal 10) ∷ standing.At 0 ∷ standing.At 63 ∷ []) ≡ standingSo 10 0 ∷ standingSo 0 0 ∷ standingSo 0 63 ∷ []
+  pub standings : map foundAnswer (standing.Refused (refusal 10) ∷ standing.At 0 ∷ standing.At 63 ∷ []) ≡ standingSo 10 0 ∷ standingSo 0 0 ∷ standingSo 0 63 ∷ []
   -- at places 1 and 2; not there, no request stream; a bad table
   pub finds : map (stands streams) (256 ∷ 20 ∷ 0 ∷ 257 ∷ []) ≡ standingSo 0 1 ∷ standingSo 0 2 ∷ standingSo 10 0 ∷ standingSo 7 0 ∷ []
   pub finds-bad : stands (rec 5 1 ∷ []) 20 ≡ standingSo 15 0

@@ -2,6 +2,7 @@
 use Prim.{Unit}
 use Prim.Native.Nat.{ℕ, _+_, _≤_, _<_}
 use mathlib.Core.Path.{_≡_}
+use mathlib.Core.Logic.{_↔_}
 use mathlib.Core.Bool.{Bool, true, false, cond}
 use mathlib.Core.Option.{none}
 use mathlib.Core.List.{List, [], _∷_}
@@ -17,9 +18,8 @@ use Rattle.wire.specs.declared.varint.Written.the-variants as writtenAs
 use Rattle.wire.specs.Bytes.{Bytes}
 use Rattle.wire.specs.Units.{quarterOf}
 use Rattle.wire.specs.Writing.{Writing, writeVarint}
-use Rattle.capsule.specs.declared.opening.Role.{Role}
-use Rattle.capsule.specs.declared.reader.Phase.{Phase}
-use Rattle.capsule.specs.declared.reader.Phase.the-variants.{InType, InLength, InValue}
+use Rattle.opening.specs.declared.Role.{Role}
+use Rattle.opening.specs.declared.Role.the-variants.{Endpoint}
 use Rattle.capsule.specs.declared.reader.Reader.{Reader}
 use Rattle.capsule.specs.declared.reader.Opened.{Opened}
 use Rattle.capsule.specs.declared.reader.Opened.the-variants as openedAs
@@ -33,13 +33,14 @@ use Rattle.capsule.specs.State.{ofBook}
 use Rattle.capsule.specs.Reader.{opening, fresh, isMakeable, openOf, feedOf, closeOf, readerCall}
 use Rattle.capsule_laws.specs.Claims.{AllBytes, HandedOn}
 use Rattle.streams.specs.declared.record.Side.{Side}
+use Rattle.streams.specs.declared.record.Side.the-variants.{Receive}
 use Rattle.streams.specs.declared.table.Opening.{Opening}
 use Rattle.streams.specs.declared.table.Opening.the-variants as openingAs
 use Rattle.streams.specs.declared.table.Closing.{Closing}
 use Rattle.streams.specs.declared.table.Closing.the-variants as closingAs
 use Rattle.streams.specs.declared.table.Standing.{Standing}
 use Rattle.streams.specs.declared.table.Standing.the-variants as standingAs
-use Rattle.streams.specs.Tables.{Table, isBad, openingOf, closingOf, standingOf}
+use Rattle.streams.specs.Tables.{Table, isBad, openingOf, closingOf, standingOf, tableOpened, tableClosed}
 use Rattle.datagram.specs.declared.judge.Judged.{Judged}
 use Rattle.datagram.specs.declared.judge.Judged.the-variants as judged
 use Rattle.datagram.specs.Judging.{judgedOf, payloadOf}
@@ -56,34 +57,24 @@ use Rattle.listing.specs.Listing.{listingOf}
 use Rattle.http.specs.declared.translation.Translation.{Translation}
 use Rattle.http.specs.declared.translation.Translation.the-variants as translation
 use Rattle.http.specs.Translation.{translated}
-use Rattle.capi.specs.declared.words.Loaded.the-variants.{Nothing, Is}
-use Rattle.capi.specs.declared.reader.FedAnswer.{FedAnswer}
-use Rattle.capi.specs.declared.reader.ClosedAnswer.{ClosedAnswer}
-use Rattle.capi.specs.Numbers.{roleOf, flagOf, bitOf}
+use Rattle.crossing.specs.declared.words.Loaded.the-variants.{Nothing, Is}
+use Rattle.crossing.specs.declared.reader.FedAnswer.{FedAnswer}
+use Rattle.crossing.specs.declared.reader.ClosedAnswer.{ClosedAnswer}
+use Rattle.crossing.specs.Numbers.{roleOf, flagOf, sideOf, statusOf, bitOf}
+use Rattle.crossing.specs.Varint.{writtenAnswer}
 use Rattle.capi.specs.Varint.{wroteBy}
-use Rattle.capi.specs.Words.{wordsOf, readerIn}
-use Rattle.capi.specs.Reader.{openWords, fedRefused, fedAnswer, fed, feedWords, closedAnswer, closed, closeWords}
+use Rattle.crossing.specs.Claims.{HaveIsByte}
+use Rattle.crossing.specs.Words.{wordsOf, readerIn}
+use Rattle.crossing.specs.Reader.{fedRefused, fedAnswer, closedAnswer}
+use Rattle.capi.specs.Reader.{openWords, fed, feedWords, closed, closeWords}
+use Rattle.crossing.specs.Table as table
+use Rattle.crossing.specs.Table.{openedAnswer}
 use Rattle.capi.specs.Table.{openTable, closeTable}
-use Rattle.capi.specs.Frames.{judgedAnswer}
-use Rattle.capi.specs.Sight.{sightAnswer, lookedAnswer, lookWords}
-use Rattle.capi.specs.Identifiers.{quarterAnswer}
-use Rattle.capi.specs.AddressCapsules.{cursor, addressFound, routeFound}
-
--- ---- the stored form of a reader (proofs/StoredForm.antt)
-
--- a partial varint's `have` is a byte in the code
-abbrev pub HaveIsByte : Phase → Type 0
-HaveIsByte (InType part) = part .have ≤ 255
-HaveIsByte (InLength t part) = part .have ≤ 255
-HaveIsByte (InValue t n left) = Unit {0}
-
--- what was stored is read back
-abbrev pub StoredRead : Type 0
-StoredRead = (r : Reader) → HaveIsByte (r .phase) → readerIn (wordsOf r) ≡ Is r
-
--- and nothing else is read as that reader
-abbrev pub ReadAsStored : Type 0
-ReadAsStored = (ws : List ℕ) (r : Reader) → length ws ≡ 8 → readerIn ws ≡ Is r → wordsOf r ≡ ws
+use Rattle.crossing.specs.Frames.{judgedAnswer}
+use Rattle.crossing.specs.Sight.{sightAnswer, lookedAnswer}
+use Rattle.capi.specs.Sight.{lookWords}
+use Rattle.crossing.specs.Identifiers.{quarterAnswer}
+use Rattle.crossing.specs.AddressCapsules.{cursor, addressFound, routeFound}
 
 -- ---- calls on a reader in words (proofs/Keeping.antt)
 
@@ -192,12 +183,28 @@ EntriesGoOn =
 abbrev pub TableStaysGood : Type 0
 TableStaysGood = (t : Table) (id x : ℕ) → isBad t ≡ false → (isBad (openTable t id x .table) ≡ false) × (isBad (closeTable t id x .table) ≡ false)
 
+-- the answer in numbers and the table afterwards are the core's, with the number of the semantics and of the side read
+abbrev pub TableKept : Type 0
+TableKept =
+    (t : Table) (id x : ℕ)
+    → let stream : StreamId = record { 0 = id } in
+    (openTable t id x .answer ≡ openedAnswer (openingOf t stream)) × (openTable t id x .table ≡ tableOpened t stream (flagOf x) (openingOf t stream))
+    × (closeTable t id x .answer ≡ table.closedAnswer (closingOf t stream (sideOf x))) × (closeTable t id x .table ≡ tableClosed t (sideOf x) (closingOf t stream (sideOf x)))
+
 -- a refusal leaves the table
 abbrev pub RefusedTableLeaves : Type 0
 RefusedTableLeaves =
     (t : Table) (id x : ℕ)
     → ((openTable t id x .answer .refusal ≡ 0 → ⊥) → openTable t id x .table ≡ t)
     × ((closeTable t id x .answer .refusal ≡ 0 → ⊥) → closeTable t id x .table ≡ t)
+
+-- ---- numbers that are handed in (proofs/TableCalls.antt)
+
+-- 0 is no, the endpoint, the receive side, and any other number the other; a status above 65,535 is none
+abbrev pub NumbersRead : Type 0
+NumbersRead =
+    (n : ℕ)
+    → ((flagOf n ≡ false) ↔ (n ≡ 0)) × ((roleOf n ≡ Endpoint) ↔ (n ≡ 0)) × ((sideOf n ≡ Receive) ↔ (n ≡ 0)) × (n ≤ 65535 → statusOf n ≡ n) × (65535 < n → statusOf n ≡ 0)
 
 -- ---- payloads and writers (proofs/Payloads.antt)
 
@@ -207,6 +214,10 @@ PayloadPart =
     (t : Table) (streams limit : ℕ) (frame : List ℕ)
     → let a = judgedAnswer frame (judgedOf t streams limit frame) in
     (a .start + a .length ≤ length frame) × (take (a .length) (drop (a .start) frame) ≡ payloadOf t streams limit frame)
+
+-- the answer in numbers and the output are the core's
+abbrev pub WrittenKept : Type 0
+WrittenKept = (w : Writing) → (wroteBy w .answer ≡ writtenAnswer (w .answer)) × (wroteBy w .output ≡ w .output)
 
 -- a refusal leaves the output
 abbrev pub RefusalLeaves : Writing → List ℕ → Type 0

@@ -1,15 +1,8 @@
-pub mod Numbers
 pub mod Varint
-pub mod Words
 pub mod Reader
-pub mod Standing
-pub mod OneShot
+pub mod ShortWords
 pub mod Table
-pub mod Frames
-pub mod AddressCapsules
-pub mod Messages
 pub mod Sight
-pub mod Identifiers
 pub mod Claims
 pub mod Told
 pub mod Cases

@@ -1,29 +1,25 @@
 -- Opening, feeding and closing a reader that is kept in words. `openOf`, `feedOf` and `closeOf` (crate capsule) say what each does.
 use Prim.Native.Nat.{ℕ}
 use mathlib.Core.List.{List}
-use Rattle.refusals.specs.declared.Refusal.{Refusal}
 use Rattle.refusals.specs.Numbers.{unmakeableState}
-use Rattle.capsule.specs.declared.opening.Report.{Report}
-use Rattle.capsule.specs.declared.opening.Report.the-variants.{Delivered, Dropped, Skipped, Passed, AddressDelivered, Malformed}
 use Rattle.capsule.specs.declared.reader.Reader.{Reader}
 use Rattle.capsule.specs.declared.reader.Opened.{Opened}
 use Rattle.capsule.specs.declared.reader.Opened.the-variants as openedAs
-use Rattle.capsule.specs.declared.reader.Ended.{Ended}
-use Rattle.capsule.specs.declared.reader.Ended.the-variants.{Nothing, Capsule}
+use Rattle.capsule.specs.declared.reader.Ended.the-variants.{Nothing}
 use Rattle.capsule.specs.declared.reader.FeedAnswer.{FeedAnswer}
 use Rattle.capsule.specs.declared.reader.FeedAnswer.the-variants as fedAs
 use Rattle.capsule.specs.declared.reader.CloseAnswer.{CloseAnswer}
 use Rattle.capsule.specs.declared.reader.CloseAnswer.the-variants as closedAs
 use Rattle.capsule.specs.declared.reader.Closed.{Closed}
 use Rattle.capsule.specs.Calls.{Lent}
-use Rattle.capsule.specs.Reader.{openOf, lengthOf, Feeding, feedOf, closeOf}
-use Rattle.http.specs.Ties.{closeError, reportError}
-use Rattle.capi.specs.declared.words.Loaded.{Loaded}
-use Rattle.capi.specs.declared.words.Loaded.the-variants as loaded
-use Rattle.capi.specs.declared.reader.FedAnswer.{FedAnswer}
-use Rattle.capi.specs.declared.reader.ClosedAnswer.{ClosedAnswer}
-use Rattle.capi.specs.Numbers.{roleOf, flagOf, errorNumber, endNumber}
-use Rattle.capi.specs.Words.{wordsOf, readerIn}
+use Rattle.capsule.specs.Reader.{openOf, Feeding, feedOf, closeOf}
+use Rattle.crossing.specs.declared.words.Loaded.{Loaded}
+use Rattle.crossing.specs.declared.words.Loaded.the-variants as loaded
+use Rattle.crossing.specs.declared.reader.FedAnswer.{FedAnswer}
+use Rattle.crossing.specs.declared.reader.ClosedAnswer.{ClosedAnswer}
+use Rattle.crossing.specs.Numbers.{roleOf, flagOf}
+use Rattle.crossing.specs.Words.{wordsOf, readerIn}
+use Rattle.crossing.specs.Reader.{fedRefused, fedAnswer, closedAnswer}
 
 -- ---- opening
 
@@ -44,35 +40,6 @@ openWords ws role limit draft addresses = openedAt ws (openOf (roleOf role) limi
 
 -- ---- feeding
 
-unfoldable pub reportNumber : Report → ℕ
-reportNumber (Delivered n) = 1
-reportNumber (Dropped n) = 2
-reportNumber (Skipped t n) = 3
-reportNumber (Passed t n) = 4
-reportNumber (AddressDelivered t n) = 5
-reportNumber (Malformed t n) = 6
-
--- the type is said of what is no DATAGRAM
-unfoldable pub typeOf : Report → ℕ
-typeOf (Delivered n) = 0
-typeOf (Dropped n) = 0
-typeOf (Skipped t n) = t
-typeOf (Passed t n) = t
-typeOf (AddressDelivered t n) = t
-typeOf (Malformed t n) = t
-
-unfoldable pub fedReport : ℕ → ℕ → Report → FedAnswer
-fedReport consumed written report =
-    record { refusal = 0; consumed = consumed; written = written; report = reportNumber report; ctype = typeOf report; length = lengthOf report; error = errorNumber (reportError report) }
-
--- 0 where no capsule ended
-unfoldable pub fedTook : ℕ → ℕ → Ended → FedAnswer
-fedTook consumed written Nothing = record { refusal = 0; consumed = consumed; written = written; report = 0; ctype = 0; length = 0; error = 0 }
-fedTook consumed written (Capsule report) = fedReport consumed written report
-
-abbrev pub fedRefused : Refusal → FedAnswer
-fedRefused why = record { refusal = why .0; consumed = 0; written = 0; report = 0; ctype = 0; length = 0; error = 0 }
-
 -- the answer, the words and all buffers afterwards
 pub record FeedDone : Type 0 where
   pub answer : FedAnswer
@@ -81,10 +48,6 @@ pub record FeedDone : Type 0 where
 
 abbrev pub fed : FedAnswer → List ℕ → Lent → FeedDone
 fed a ws b = record { answer = a; words = ws; buffers = b }
-
-unfoldable pub fedAnswer : FeedAnswer → FedAnswer
-fedAnswer (fedAs.Refused why) = fedRefused why
-fedAnswer (fedAs.Took consumed written ended) = fedTook consumed written ended
 
 -- a refusal stores no words
 unfoldable pub wordsFed : List ℕ → Reader → FeedAnswer → List ℕ
@@ -103,14 +66,6 @@ unfoldable pub feedWords : List ℕ → List ℕ → Lent → FeedDone
 feedWords ws p b = feedLoaded ws p b (readerIn ws)
 
 -- ---- clean close
-
-unfoldable pub closeRefusal : CloseAnswer → ℕ
-closeRefusal (closedAs.Refused why) = why .0
-closeRefusal closedAs.Clean = 0
-closeRefusal closedAs.Truncated = 0
-
-unfoldable pub closedAnswer : CloseAnswer → ClosedAnswer
-closedAnswer a = record { refusal = closeRefusal a; end = endNumber a; error = errorNumber (closeError a) }
 
 -- the answer, and the words afterwards
 pub record CloseDone : Type 0 where

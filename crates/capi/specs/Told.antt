@@ -18,7 +18,7 @@ use Rattle.wire.specs.declared.varint.Varint.the-variants.{Incomplete, Whole}
 use Rattle.wire.specs.declared.varint.Written.{Written}
 use Rattle.wire.specs.declared.varint.Written.the-variants as writtenAs
 use Rattle.wire.specs.Varint.{readVarint}
-use Rattle.capsule.specs.declared.opening.Report.the-variants.{Delivered, Dropped, Skipped, Passed, AddressDelivered, Malformed}
+use Rattle.opening.specs.declared.Report.the-variants.{Delivered, Dropped, Skipped, Passed, AddressDelivered, Malformed}
 use Rattle.capsule.specs.declared.reader.Reader.{Reader}
 use Rattle.capsule.specs.declared.reader.Opened.the-variants as readerAs
 use Rattle.capsule.specs.declared.reader.Ended.{Ended}
@@ -54,34 +54,36 @@ use Rattle.addresses.specs.declared.Found.{Found}
 use Rattle.addresses.specs.declared.Found.the-variants as found
 use Rattle.addresses.specs.declared.NextAddress.{NextAddress}
 use Rattle.addresses.specs.declared.NextRange.{NextRange}
-use Rattle.capi.specs.declared.varint.VarintAnswer.{VarintAnswer}
-use Rattle.capi.specs.declared.varint.WrittenAnswer.{WrittenAnswer}
-use Rattle.capi.specs.declared.reader.FedAnswer.{FedAnswer}
-use Rattle.capi.specs.declared.reader.ClosedAnswer.{ClosedAnswer}
-use Rattle.capi.specs.declared.sight.LookAnswer.{LookAnswer}
-use Rattle.capi.specs.declared.identifiers.QuarterAnswer.{QuarterAnswer}
-use Rattle.capi.specs.declared.identifiers.StreamIdAnswer.{StreamIdAnswer}
-use Rattle.capi.specs.declared.one_shot.ListingAnswer.{ListingAnswer}
-use Rattle.capi.specs.declared.table.OpenedAnswer.{OpenedAnswer}
-use Rattle.capi.specs.declared.table.FoundAnswer.{FoundAnswer}
-use Rattle.capi.specs.declared.table.SideClosedAnswer.{SideClosedAnswer}
-use Rattle.capi.specs.declared.frames.JudgedAnswer.{JudgedAnswer}
-use Rattle.capi.specs.declared.messages.TranslationAnswer.{TranslationAnswer}
-use Rattle.capi.specs.declared.address_capsules.AddressFound.{AddressFound}
-use Rattle.capi.specs.declared.address_capsules.RouteFound.{RouteFound}
-use Rattle.capi.specs.Numbers.{bitOf, errorNumber}
-use Rattle.capi.specs.Varint.{varintAnswer, writtenAnswer}
-use Rattle.capi.specs.Words.{wordsOf}
-use Rattle.capi.specs.Reader as reader
-use Rattle.capi.specs.Reader.{openedAt, opened, fedAnswer}
-use Rattle.capi.specs.Table as table
-use Rattle.capi.specs.Table.{streamId, openedAnswer, foundAnswer}
-use Rattle.capi.specs.Frames.{judgedAnswer}
-use Rattle.capi.specs.Sight.{lookedAnswer}
-use Rattle.capi.specs.Identifiers.{quarterAnswer, streamAnswer}
-use Rattle.capi.specs.OneShot.{listingAnswer}
-use Rattle.capi.specs.AddressCapsules.{cursor, addressFound, routeFound}
-use Rattle.capi.specs.Messages.{translationAnswer}
+use Rattle.crossing.specs.declared.varint.VarintAnswer.{VarintAnswer}
+use Rattle.crossing.specs.declared.varint.WrittenAnswer.{WrittenAnswer}
+use Rattle.crossing.specs.declared.reader.FedAnswer.{FedAnswer}
+use Rattle.crossing.specs.declared.reader.ClosedAnswer.{ClosedAnswer}
+use Rattle.crossing.specs.declared.sight.LookAnswer.{LookAnswer}
+use Rattle.crossing.specs.declared.identifiers.QuarterAnswer.{QuarterAnswer}
+use Rattle.crossing.specs.declared.identifiers.StreamIdAnswer.{StreamIdAnswer}
+use Rattle.crossing.specs.declared.one_shot.ListingAnswer.{ListingAnswer}
+use Rattle.crossing.specs.declared.table.OpenedAnswer.{OpenedAnswer}
+use Rattle.crossing.specs.declared.table.FoundAnswer.{FoundAnswer}
+use Rattle.crossing.specs.declared.table.SideClosedAnswer.{SideClosedAnswer}
+use Rattle.crossing.specs.declared.frames.JudgedAnswer.{JudgedAnswer}
+use Rattle.crossing.specs.declared.messages.TranslationAnswer.{TranslationAnswer}
+use Rattle.crossing.specs.declared.address_capsules.AddressFound.{AddressFound}
+use Rattle.crossing.specs.declared.address_capsules.RouteFound.{RouteFound}
+use Rattle.crossing.specs.Numbers.{bitOf, errorNumber}
+use Rattle.crossing.specs.Varint.{varintAnswer, writtenAnswer}
+use Rattle.crossing.specs.Words.{wordsOf}
+use Rattle.crossing.specs.Reader as reader
+use Rattle.crossing.specs.Reader.{fedAnswer}
+use Rattle.capi.specs.Reader.{openedAt, opened}
+use Rattle.crossing.specs.Table as table
+use Rattle.crossing.specs.Table.{openedAnswer, foundAnswer}
+use Rattle.capi.specs.Table.{streamId}
+use Rattle.crossing.specs.Frames.{judgedAnswer}
+use Rattle.crossing.specs.Sight.{lookedAnswer}
+use Rattle.crossing.specs.Identifiers.{quarterAnswer, streamAnswer}
+use Rattle.crossing.specs.OneShot.{listingAnswer}
+use Rattle.crossing.specs.AddressCapsules.{cursor, addressFound, routeFound}
+use Rattle.crossing.specs.Messages.{translationAnswer}
 use Rattle.capi.specs.Claims.{FedSo, ClosedSo, LookedSo, ListedSo, WrittenSo, OpeningSo, StandingSo, ClosingSo, JudgedSo, TranslatedSo}
 
 -- ---- readings of answers

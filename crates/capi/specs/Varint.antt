@@ -1,22 +1,9 @@
--- Varints read and written.
+-- What a writer did.
 use Prim.Native.Nat.{ℕ}
 use mathlib.Core.List.{List}
-use Rattle.wire.specs.declared.varint.Varint.{Varint}
-use Rattle.wire.specs.declared.varint.Varint.the-variants.{Incomplete, Whole}
-use Rattle.wire.specs.declared.varint.Written.{Written}
-use Rattle.wire.specs.declared.varint.Written.the-variants.{Refused, Wrote}
 use Rattle.wire.specs.Writing.{Writing}
-use Rattle.capi.specs.declared.varint.VarintAnswer.{VarintAnswer}
-use Rattle.capi.specs.declared.varint.WrittenAnswer.{WrittenAnswer}
-
--- no varint has size 0: that is incomplete
-unfoldable pub varintAnswer : Varint → VarintAnswer
-varintAnswer Incomplete = record { value = 0; size = 0 }
-varintAnswer (Whole value size) = record { value = value; size = size }
-
-unfoldable pub writtenAnswer : Written → WrittenAnswer
-writtenAnswer (Refused why) = record { refusal = why .0; written = 0 }
-writtenAnswer (Wrote count) = record { refusal = 0; written = count }
+use Rattle.crossing.specs.declared.varint.WrittenAnswer.{WrittenAnswer}
+use Rattle.crossing.specs.Varint.{writtenAnswer}
 
 -- the answer, and the whole output afterwards
 pub record Answered : Type 0 where

@@ -3,63 +3,23 @@ ghost use mathlib.Core.Path.{_≡_};
 ghost use Rattle.addresses.specs.Addresses.{assign, request, wellFormed};
 ghost use Rattle.addresses.specs.Handing.{nextAddress, nextRange};
 ghost use Rattle.address_writer.specs.Writer.{writeAddresses, writeRoutes};
-ghost use Rattle.capi.specs.Numbers.{bitOf};
+ghost use Rattle.crossing.specs.Numbers.{bitOf};
 ghost use Rattle.capi.specs.Varint.{wrote, wroteBy};
-ghost use Rattle.capi.specs.AddressCapsules.{foundNumber, cursor, addressFound, routeFound};
-use crate::numbers::bit_of;
-use crate::varint::WrittenAnswer;
-use crate::varint::written_answer;
+ghost use Rattle.crossing.specs.AddressCapsules.{cursor, addressFound, routeFound};
 use address_writer::write_assign;
 use address_writer::write_request;
 use address_writer::write_routes;
 use addresses::Cursor;
-use addresses::Found;
 use addresses::next_address;
 use addresses::next_range;
 use addresses::well_formed;
-
-// address: of IP version 4 its first four bytes, the others 0; reserved: 0
-#[repr(C)]
-pub struct AddressEntry {
-    pub id: u64,
-    pub version: u8,
-    pub prefix: u8,
-    pub address: [u8; 16],
-    pub reserved: [u8; 6],
-}
-
-#[repr(C)]
-pub struct RouteEntry {
-    pub version: u8,
-    pub protocol: u8,
-    pub start: [u8; 16],
-    pub end: [u8; 16],
-}
-
-// found: 0 none, 1 an entry, 2 malformed
-#[repr(C)]
-pub struct AddressFound {
-    pub found: u64,
-    pub next: u64,
-    pub address: AddressEntry,
-}
-
-#[repr(C)]
-pub struct RouteFound {
-    pub found: u64,
-    pub next: u64,
-    pub route: RouteEntry,
-}
-
-fn found_number(found: Found) -> u64
-    ensures { λ r. ⌜ r ≡ foundNumber found ⌝ }
-{
-    match found {
-        Found::End => 0,
-        Found::Entry => 1,
-        Found::Malformed => 2,
-    }
-}
+use crossing::address_capsules::AddressFound;
+use crossing::address_capsules::RouteFound;
+use crossing::address_capsules::address_found;
+use crossing::address_capsules::route_found;
+use crossing::numbers::bit_of;
+use crossing::varint::WrittenAnswer;
+use crossing::varint::written_answer;
 
 #[no_mangle]
 pub extern "C" fn mrz_address_value_good(ctype: u64, value: &[u8]) -> u64
@@ -72,46 +32,14 @@ pub extern "C" fn mrz_address_value_good(ctype: u64, value: &[u8]) -> u64
 pub extern "C" fn mrz_address_next(value: &[u8], at: u64) -> AddressFound
     ensures { λ r. ⌜ r ≡ addressFound (nextAddress (now (value .entry)) (cursor at)) ⌝ }
 {
-    let stepped = next_address(value, Cursor { at: at as usize });
-    let found = stepped.found;
-    let next = stepped.next;
-    let entry = stepped.address;
-    let bytes = entry.bytes;
-    let address = AddressEntry {
-        id: entry.id,
-        version: entry.version,
-        prefix: entry.prefix,
-        address: bytes,
-        reserved: [0u8; 6],
-    };
-    AddressFound {
-        found: found_number(found),
-        next: next.at as u64,
-        address: address,
-    }
+    address_found(next_address(value, Cursor { at: at as usize }))
 }
 
 #[no_mangle]
 pub extern "C" fn mrz_route_next(value: &[u8], at: u64) -> RouteFound
     ensures { λ r. ⌜ r ≡ routeFound (nextRange (now (value .entry)) (cursor at)) ⌝ }
 {
-    let stepped = next_range(value, Cursor { at: at as usize });
-    let found = stepped.found;
-    let next = stepped.next;
-    let range = stepped.range;
-    let start = range.start;
-    let end = range.end;
-    let route = RouteEntry {
-        version: range.version,
-        protocol: range.protocol,
-        start: start,
-        end: end,
-    };
-    RouteFound {
-        found: found_number(found),
-        next: next.at as u64,
-        route: route,
-    }
+    route_found(next_range(value, Cursor { at: at as usize }))
 }
 
 #[no_mangle]

@@ -1,42 +1,22 @@
 // QUIC DATAGRAM payloads judged; capsules and frames written.
 ghost use mathlib.Core.Path.{_≡_};
-ghost use Rattle.wire.specs.Varint.{readVarint};
 ghost use Rattle.datagram.specs.Judging.{judgedOf};
 ghost use Rattle.datagram.specs.Sending.{putCapsule, putCapsuleHeader, writeCapsule, writeFrame, writeFrameHeader};
-ghost use Rattle.http.specs.Ties.{judgedError};
-ghost use Rattle.capi.specs.Numbers.{errorNumber};
 ghost use Rattle.capi.specs.Varint.{wrote, wroteBy};
 ghost use Rattle.capi.specs.Table.{streamId};
-ghost use Rattle.capi.specs.Frames.{judgedNumbers, deliveredAnswer, judgedAnswer};
-use crate::numbers::error_number;
-use crate::numbers::refusal_number;
-use crate::varint::WrittenAnswer;
-use crate::varint::written_answer;
-use datagram::judge::Judged;
+ghost use Rattle.crossing.specs.Frames.{judgedAnswer};
+use crossing::frames::JudgedAnswer;
+use crossing::frames::judged_answer;
+use crossing::varint::WrittenAnswer;
+use crossing::varint::written_answer;
 use datagram::judge::judge;
 use datagram::write::write_capsule;
 use datagram::write::write_datagram;
 use datagram::write::write_datagram_header;
 use datagram::write::write_frame;
 use datagram::write::write_frame_header;
-use http::ties::judged_error;
 use streams::record::StreamRecord;
-use wire::units::Quarter;
 use wire::units::StreamId;
-use wire::varint::Varint;
-use wire::varint::read_varint;
-
-// quarter: with rules 2 to 8; place: with rules 5 to 8; start and length: with rule 8
-#[repr(C)]
-pub struct JudgedAnswer {
-    pub refusal: u64,
-    pub rule: u64,
-    pub quarter: u64,
-    pub place: u64,
-    pub start: u64,
-    pub length: u64,
-    pub error: u64,
-}
 
 // The stated stream limit, in quarters, and the datagram limit.
 #[repr(C)]
@@ -141,67 +121,4 @@ pub extern "C" fn mrz_write_datagram_header(
     ensures { λ r. ⌜ wrote r (now (out .exit)) ≡ wroteBy (putCapsuleHeader «payload_length» (now (out .entry)) place) ⌝ }
 {
     written_answer(write_datagram_header(payload_length, out, place as usize))
-}
-
-fn judged_answer(judged: Judged, frame: &[u8]) -> JudgedAnswer
-    ensures { λ r. ⌜ r ≡ judgedAnswer (now (frame .entry)) judged ⌝ }
-{
-    match judged {
-        Judged::Refused(why) => JudgedAnswer {
-            refusal: refusal_number(why),
-            rule: 0,
-            quarter: 0,
-            place: 0,
-            start: 0,
-            length: 0,
-            error: 0,
-        },
-        Judged::ShortFrame => ruled(judged, 1, Quarter(0), 0),
-        Judged::QuarterTooLarge { quarter } => ruled(judged, 2, quarter, 0),
-        Judged::BeyondLimit { quarter } => ruled(judged, 3, quarter, 0),
-        Judged::NoStream { quarter } => ruled(judged, 4, quarter, 0),
-        Judged::ReceiveClosed { quarter, place } => ruled(judged, 5, quarter, place),
-        Judged::NoSemantics { quarter, place } => ruled(judged, 6, quarter, place),
-        Judged::TooLong { quarter, place } => ruled(judged, 7, quarter, place),
-        Judged::Delivered { quarter, place } => delivered(quarter, place, frame),
-    }
-}
-
-// Rules 1 to 7, by their numbers.
-fn ruled(judged: Judged, rule: u64, quarter: Quarter, place: usize) -> JudgedAnswer
-    ensures { λ r. ⌜ r ≡ judgedNumbers rule (errorNumber (judgedError judged)) (quarter .0) place 0 0 ⌝ }
-{
-    JudgedAnswer {
-        refusal: 0,
-        rule: rule,
-        quarter: quarter.0,
-        place: place as u64,
-        start: 0,
-        length: 0,
-        error: error_number(judged_error(judged)),
-    }
-}
-
-// Rule 8: the payload is what follows the quarter.
-fn delivered(quarter: Quarter, place: usize, frame: &[u8]) -> JudgedAnswer
-    ensures { λ r. ⌜ r ≡ deliveredAnswer quarter place (now (frame .entry)) (readVarint (now (frame .entry))) ⌝ }
-{
-    match read_varint(frame) {
-        Varint::Incomplete => part(quarter, place, 0, 0),
-        Varint::Whole { value: _, size } => part(quarter, place, size, frame.len() - size),
-    }
-}
-
-fn part(quarter: Quarter, place: usize, start: usize, length: usize) -> JudgedAnswer
-    ensures { λ r. ⌜ r ≡ judgedNumbers 8 0 (quarter .0) place start length ⌝ }
-{
-    JudgedAnswer {
-        refusal: 0,
-        rule: 8,
-        quarter: quarter.0,
-        place: place as u64,
-        start: start as u64,
-        length: length as u64,
-        error: 0,
-    }
 }

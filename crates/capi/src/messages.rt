@@ -4,29 +4,20 @@ ghost use Rattle.http.specs.Field.{inUse};
 ghost use Rattle.http.specs.Messages.{fieldCounts, requestMalformed, responseMalformed};
 ghost use Rattle.http.specs.Settings.{receivedSetting, settingError};
 ghost use Rattle.http.specs.Translation.{translated};
-ghost use Rattle.capi.specs.Numbers.{flagOf, statusOf, bitOf, errorNumber};
-ghost use Rattle.capi.specs.Messages.{messageOf, actionAnswer, translationAnswer};
-use crate::numbers::bit_of;
-use crate::numbers::error_number;
-use crate::numbers::flag_of;
-use crate::numbers::refusal_number;
-use crate::numbers::status_of;
+ghost use Rattle.crossing.specs.Numbers.{flagOf, statusOf, bitOf, errorNumber};
+ghost use Rattle.crossing.specs.Messages.{messageOf, translationAnswer};
+use crossing::messages::TranslationAnswer;
+use crossing::messages::message_of;
+use crossing::messages::translation_answer;
+use crossing::numbers::bit_of;
+use crossing::numbers::error_number;
+use crossing::numbers::flag_of;
+use crossing::numbers::status_of;
 use http::field::in_use;
-use http::messages::Message;
 use http::messages::request_malformed;
 use http::messages::response_malformed;
 use http::settings::received;
-use http::translation::Action;
-use http::translation::Translation;
 use http::translation::translate;
-
-// action: 0 none, 1 close, 2 stream error, 3 connection error
-#[repr(C)]
-pub struct TranslationAnswer {
-    pub refusal: u64,
-    pub action: u64,
-    pub code: u64,
-}
 
 #[no_mangle]
 pub extern "C" fn mrz_setting_error(value: u64, stored: u64) -> u64
@@ -68,15 +59,6 @@ pub extern "C" fn mrz_response_malformed(
     ))
 }
 
-fn message_of(response: u64, status: u64) -> Message
-    ensures { λ r. ⌜ r ≡ messageOf response status ⌝ }
-{
-    if flag_of(response) {
-        return Message::Response(status_of(status));
-    }
-    Message::Request
-}
-
 #[no_mangle]
 pub extern "C" fn mrz_field_counts(response: u64, status: u64) -> u64
     ensures { λ r. ⌜ r ≡ bitOf (fieldCounts (messageOf response status)) ⌝ }
@@ -91,43 +73,9 @@ pub extern "C" fn mrz_field_in_use(value: &[u8]) -> u64
     bit_of(in_use(value))
 }
 
-fn action_answer(action: Action) -> TranslationAnswer
-    ensures { λ r. ⌜ r ≡ actionAnswer action ⌝ }
-{
-    match action {
-        Action::None => TranslationAnswer {
-            refusal: 0,
-            action: 0,
-            code: 0,
-        },
-        Action::Close(code) => TranslationAnswer {
-            refusal: 0,
-            action: 1,
-            code: code.0,
-        },
-        Action::StreamError(code) => TranslationAnswer {
-            refusal: 0,
-            action: 2,
-            code: code.0,
-        },
-        Action::ConnectionError(code) => TranslationAnswer {
-            refusal: 0,
-            action: 3,
-            code: code.0,
-        },
-    }
-}
-
 #[no_mangle]
 pub extern "C" fn mrz_translate(error: u64, version: u64) -> TranslationAnswer
     ensures { λ r. ⌜ r ≡ translationAnswer (translated error version) ⌝ }
 {
-    match translate(error, version) {
-        Translation::Refused(why) => TranslationAnswer {
-            refusal: refusal_number(why),
-            action: 0,
-            code: 0,
-        },
-        Translation::Becomes(action) => action_answer(action),
-    }
+    translation_answer(translate(error, version))
 }

@@ -4,22 +4,10 @@ ghost use Rattle.capsule.specs.Calls.{lent};
 ghost use lib.ListN.{getD};
 ghost use Rattle.capsule.specs.Reader.{fresh};
 ghost use Rattle.capsule.specs.Short.{inValue};
-ghost use Rattle.capi.specs.declared.words.Loaded.the-variants.{Is};
-ghost use Rattle.capi.specs.Words.{readerIn, openingIn};
-ghost use Rattle.capi.specs.Standing.{TriedRight};
-ghost use Rattle.capi.specs.Reader.{opened, openWords, fedRefused, fedReport, fedTook, fed, feedWords, closedAnswer, closed, closeWords};
-use crate::numbers::error_number;
-use crate::numbers::flag_of;
-use crate::numbers::refusal_number;
-use crate::numbers::role_of;
-use crate::words::Loaded;
-use crate::words::Standing;
-use crate::words::copied;
-use crate::words::load;
-use crate::words::opening_in;
-use crate::words::standing_of;
-use crate::words::store;
-use capsule::opening::Report;
+ghost use Rattle.crossing.specs.declared.words.Loaded.the-variants.{Is};
+ghost use Rattle.crossing.specs.Words.{readerIn, openingIn};
+ghost use Rattle.capi.specs.ShortWords.{TriedRight};
+ghost use Rattle.capi.specs.Reader.{opened, openWords, fed, feedWords, closed, closeWords};
 use capsule::reader::CloseAnswer;
 use capsule::reader::Ended;
 use capsule::reader::FeedAnswer;
@@ -27,8 +15,24 @@ use capsule::reader::Opened;
 use capsule::reader::Reader;
 use capsule::short::Inside;
 use capsule::short::Whole;
-use http::ties::close_error;
-use http::ties::report_error;
+use capsule::short::feed_inside;
+use capsule::short::feed_whole;
+use crossing::numbers::flag_of;
+use crossing::numbers::refusal_number;
+use crossing::numbers::role_of;
+use crossing::reader::ClosedAnswer;
+use crossing::reader::FedAnswer;
+use crossing::reader::closed_answer;
+use crossing::reader::fed_report;
+use crossing::reader::fed_took;
+use crossing::reader::feed_refused;
+use crossing::words::Loaded;
+use crossing::words::Standing;
+use crossing::words::copied;
+use crossing::words::load;
+use crossing::words::opening_in;
+use crossing::words::standing_of;
+use crossing::words::store;
 use refusals::Refusal;
 
 #[repr(C)]
@@ -37,27 +41,6 @@ pub struct OpeningNumbers {
     pub datagram_limit: u64,
     pub draft: u64,
     pub addresses: u64,
-}
-
-// report: 0 no capsule ended, 1 delivered, 2 dropped, 3 skipped, 4 passed, 5 address capsule delivered, 6 malformed
-// error: the report's
-#[repr(C)]
-pub struct FedAnswer {
-    pub refusal: u64,
-    pub consumed: u64,
-    pub written: u64,
-    pub report: u64,
-    pub ctype: u64,
-    pub length: u64,
-    pub error: u64,
-}
-
-// end: 1 clean, 2 truncated
-#[repr(C)]
-pub struct ClosedAnswer {
-    pub refusal: u64,
-    pub end: u64,
-    pub error: u64,
 }
 
 // The refusal's number, or 0.
@@ -76,98 +59,6 @@ pub extern "C" fn mrz_reader_open(words: &mut [u64; 8], opening: OpeningNumbers)
             store(words, reader);
             0
         }
-    }
-}
-
-fn feed_refused(why: Refusal) -> FedAnswer
-    ensures { λ r. ⌜ r ≡ fedRefused why ⌝ }
-{
-    FedAnswer {
-        refusal: refusal_number(why),
-        consumed: 0,
-        written: 0,
-        report: 0,
-        ctype: 0,
-        length: 0,
-        error: 0,
-    }
-}
-
-fn fed_report(consumed: usize, written: usize, report: Report) -> FedAnswer
-    ensures { λ r. ⌜ r ≡ fedReport consumed written report ⌝ }
-{
-    match report {
-        Report::Delivered(length) => FedAnswer {
-            refusal: 0,
-            consumed: consumed as u64,
-            written: written as u64,
-            report: 1,
-            ctype: 0,
-            length: length,
-            error: 0,
-        },
-        Report::Dropped(length) => FedAnswer {
-            refusal: 0,
-            consumed: consumed as u64,
-            written: written as u64,
-            report: 2,
-            ctype: 0,
-            length: length,
-            error: 0,
-        },
-        Report::Skipped(ctype, length) => FedAnswer {
-            refusal: 0,
-            consumed: consumed as u64,
-            written: written as u64,
-            report: 3,
-            ctype: ctype,
-            length: length,
-            error: 0,
-        },
-        Report::Passed(ctype, length) => FedAnswer {
-            refusal: 0,
-            consumed: consumed as u64,
-            written: written as u64,
-            report: 4,
-            ctype: ctype,
-            length: length,
-            error: 0,
-        },
-        Report::AddressDelivered(ctype, length) => FedAnswer {
-            refusal: 0,
-            consumed: consumed as u64,
-            written: written as u64,
-            report: 5,
-            ctype: ctype,
-            length: length,
-            error: 0,
-        },
-        Report::Malformed(ctype, length) => FedAnswer {
-            refusal: 0,
-            consumed: consumed as u64,
-            written: written as u64,
-            report: 6,
-            ctype: ctype,
-            length: length,
-            error: error_number(report_error(report)),
-        },
-    }
-}
-
-fn fed_took(consumed: usize, written: usize, ended: Ended) -> FedAnswer
-    ensures { λ r. ⌜ r ≡ fedTook consumed written ended ⌝ }
-{
-    match ended {
-        Ended::Nothing => FedAnswer {
-            refusal: 0,
-            consumed: consumed as u64,
-            written: written as u64,
-            report: 0,
-            ctype: 0,
-            length: 0,
-            error: 0,
-        },
-        Ended::Capsule(report) => fed_report(consumed, written, report),
     }
 }
 
@@ -221,7 +112,7 @@ fn try_between(
     ensures { λ r. ⌜ TriedRight (now (words .entry)) (now (piece .entry)) (lent (now (gathering .entry)) (now (addresses .entry)) (now (output .entry))) r (now (words .exit)) (lent (now (gathering .exit)) (now (addresses .entry)) (now (output .exit))) ⌝ }
 {
     let opening = opening_in(words);
-    match opening.feed_whole(piece, gathering, addresses, output) {
+    match feed_whole(opening, piece, gathering, addresses, output) {
         Whole::Not => Tried::Not,
         Whole::Took {
             consumed,
@@ -260,7 +151,8 @@ fn try_within(
 {
     let opening = opening_in(words);
     let left = words[6];
-    match opening.feed_inside(
+    match feed_inside(
+        opening,
         words[4],
         words[5],
         left,
@@ -319,28 +211,6 @@ pub extern "C" fn mrz_reader_feed(
     match try_short(words, piece, gathering, addresses, output) {
         Tried::Fed(answer) => answer,
         Tried::Not => feed_loaded(words, piece, gathering, addresses, output),
-    }
-}
-
-fn closed_answer(answer: CloseAnswer) -> ClosedAnswer
-    ensures { λ r. ⌜ r ≡ closedAnswer answer ⌝ }
-{
-    match answer {
-        CloseAnswer::Refused(why) => ClosedAnswer {
-            refusal: refusal_number(why),
-            end: 0,
-            error: error_number(close_error(answer)),
-        },
-        CloseAnswer::Clean => ClosedAnswer {
-            refusal: 0,
-            end: 1,
-            error: error_number(close_error(answer)),
-        },
-        CloseAnswer::Truncated => ClosedAnswer {
-            refusal: 0,
-            end: 2,
-            error: error_number(close_error(answer)),
-        },
     }
 }
 

@@ -2,52 +2,20 @@
 ghost use mathlib.Core.Path.{_≡_};
 ghost use Rattle.wire.specs.Varint.{readVarint};
 ghost use Rattle.wire.specs.Writing.{writeVarint};
-ghost use Rattle.capi.specs.Varint.{varintAnswer, writtenAnswer, wrote, wroteBy};
-use crate::numbers::refusal_number;
-use wire::varint::Varint;
-use wire::varint::Written;
+ghost use Rattle.crossing.specs.Varint.{varintAnswer};
+ghost use Rattle.capi.specs.Varint.{wrote, wroteBy};
+use crossing::varint::VarintAnswer;
+use crossing::varint::WrittenAnswer;
+use crossing::varint::varint_answer;
+use crossing::varint::written_answer;
 use wire::varint::read_varint;
 use wire::varint::write_varint;
-
-// size 0: incomplete
-#[repr(C)]
-pub struct VarintAnswer {
-    pub value: u64,
-    pub size: u64,
-}
-
-#[repr(C)]
-pub struct WrittenAnswer {
-    pub refusal: u64,
-    pub written: u64,
-}
-
-pub(crate) fn written_answer(written: Written) -> WrittenAnswer
-    ensures { λ r. ⌜ r ≡ writtenAnswer written ⌝ }
-{
-    match written {
-        Written::Refused(why) => WrittenAnswer {
-            refusal: refusal_number(why),
-            written: 0,
-        },
-        Written::Wrote(count) => WrittenAnswer {
-            refusal: 0,
-            written: count as u64,
-        },
-    }
-}
 
 #[no_mangle]
 pub extern "C" fn mrz_read_varint(bytes: &[u8]) -> VarintAnswer
     ensures { λ r. ⌜ r ≡ varintAnswer (readVarint (now (bytes .entry))) ⌝ }
 {
-    match read_varint(bytes) {
-        Varint::Incomplete => VarintAnswer { value: 0, size: 0 },
-        Varint::Whole { value, size } => VarintAnswer {
-            value: value,
-            size: size as u64,
-        },
-    }
+    varint_answer(read_varint(bytes))
 }
 
 #[no_mangle]

@@ -11,8 +11,7 @@ use Rattle.capsule.specs.declared.plan.Plan.{Plan}
 use Rattle.capsule.specs.declared.reader.Reader.{Reader}
 use Rattle.capsule.specs.declared.reader.Ended.{Ended}
 use Rattle.capsule.specs.declared.reader.FeedAnswer.the-variants.{Took}
-use Rattle.capsule.specs.Calls.{Lent, lent}
-use Rattle.capsule.specs.Kinds.{finishesIn}
+use Rattle.capsule.specs.Calls.{Lent, lent, finishesIn}
 use Rattle.capsule.specs.Reader.{planOf, heldOf, wrote, stored, judgedIn, feeding, fedBy, takeOf}
 use Rattle.capsule.specs.Moves.{Wrote}
 

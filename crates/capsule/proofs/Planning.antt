@@ -10,17 +10,17 @@ use Rattle.wire.specs.Partial.{heldBytes, starts, isPartial, takenOf, takeVarin
 use Rattle.wire.proofs.Numbers.{length-bytesOf}
 use Rattle.wire.proofs.Reading.{reads}
 use Rattle.wire.proofs.Parts.{parted, starts-le}
-use Rattle.capsule.specs.declared.opening.Role.{Role}
-use Rattle.capsule.specs.declared.opening.Role.the-variants.{Endpoint, Intermediary}
-use Rattle.capsule.specs.declared.opening.Kind.{Kind}
-use Rattle.capsule.specs.declared.opening.Kind.the-variants.{Datagram, Address, Unknown}
-use Rattle.capsule.specs.declared.opening.Opening.{Opening}
+use Rattle.opening.specs.declared.Role.{Role}
+use Rattle.opening.specs.declared.Role.the-variants.{Endpoint, Intermediary}
+use Rattle.opening.specs.declared.Kind.{Kind}
+use Rattle.opening.specs.declared.Kind.the-variants.{Datagram, Address, Unknown}
+use Rattle.opening.specs.declared.Opening.{Opening}
 use Rattle.capsule.specs.declared.plan.Plan.{Plan}
 use Rattle.capsule.specs.declared.reader.Phase.{Phase}
 use Rattle.capsule.specs.declared.reader.Phase.the-variants.{InType, InLength, InValue}
 use Rattle.capsule.specs.declared.reader.Ended.the-variants.{Nothing, Capsule}
 use Rattle.addresses.specs.Addresses.{longestAddressValue}
-use Rattle.capsule.specs.Kinds.{opted, kindOf, extentBy, extentOf, reportOf, forwardsBy, forwards, gathersBy, gathers, keepsBy, keeps}
+use Rattle.opening.specs.Kinds.{opted, kindOf, extentBy, extentOf, reportOf, forwardsBy, forwards, gathersBy, gathers, keepsBy, keeps}
 use Rattle.capsule.specs.Reader.{noBytes, isMakeablePhase, planValue, planHead, planLength, planType, planOf, heldOf}
 
 -- ---- what cannot be

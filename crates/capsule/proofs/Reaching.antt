@@ -8,13 +8,13 @@ use Rattle.wire.specs.Varint.{readVarint}
 use Rattle.wire.specs.Partial.{isPartial, takeVarint}
 use Rattle.wire.proofs.Reading.{front-one, front-whole}
 use Rattle.wire.proofs.Parts.{begins-whole, empty-is, starts-zero}
-use Rattle.capsule.specs.declared.opening.Opening.{Opening}
+use Rattle.opening.specs.declared.Opening.{Opening}
 use Rattle.capsule.specs.declared.plan.Plan.{Plan}
 use Rattle.capsule.specs.declared.plan.Reached.{Reached}
 use Rattle.capsule.specs.declared.plan.Header.{Header}
 use Rattle.capsule.specs.declared.plan.Header.the-variants.{Long, Short}
 use Rattle.capsule.specs.declared.plan.Reached.the-variants.{Stops, Value}
-use Rattle.capsule.specs.Kinds.{extentOf}
+use Rattle.opening.specs.Kinds.{extentOf}
 use Rattle.capsule.specs.Reader.{noBytes, planValue, planType}
 use Rattle.capsule.specs.Reaching.{planBy, Within, Reaches}
 use Rattle.capsule.specs.Short.{shortHeader, firstHeader}

@@ -4,13 +4,13 @@ use Rattle.refusals.specs.declared.Refusal.{Refusal}
 use Rattle.refusals.specs.Numbers.{unmakeableState}
 use Rattle.wire.specs.Partial.{isPartial, starts}
 use Rattle.wire.proofs.Reading.{split}
-use Rattle.capsule.specs.declared.opening.Opening.{Opening}
-use Rattle.capsule.specs.declared.opening.Report.{Report}
-use Rattle.capsule.specs.declared.opening.Report.the-variants.{Delivered, Dropped}
-use Rattle.capsule.specs.declared.opening.Role.{Role}
-use Rattle.capsule.specs.declared.opening.Role.the-variants.{Endpoint, Intermediary}
-use Rattle.capsule.specs.declared.opening.Kind.{Kind}
-use Rattle.capsule.specs.declared.opening.Kind.the-variants.{Datagram, Address, Unknown}
+use Rattle.opening.specs.declared.Opening.{Opening}
+use Rattle.opening.specs.declared.Report.{Report}
+use Rattle.opening.specs.declared.Report.the-variants.{Delivered, Dropped}
+use Rattle.opening.specs.declared.Role.{Role}
+use Rattle.opening.specs.declared.Role.the-variants.{Endpoint, Intermediary}
+use Rattle.opening.specs.declared.Kind.{Kind}
+use Rattle.opening.specs.declared.Kind.the-variants.{Datagram, Address, Unknown}
 use Rattle.capsule.specs.declared.plan.Plan.{Plan}
 use Rattle.capsule.specs.declared.plan.Header.{Header}
 use Rattle.capsule.specs.declared.plan.Header.the-variants.{Long, Short}
@@ -23,8 +23,8 @@ use Rattle.capsule.specs.declared.reader.Verdict.{Verdict}
 use Rattle.capsule.specs.declared.reader.Verdict.the-variants.{Accepted, Refused}
 use Rattle.capsule.specs.declared.short.Whole.the-variants as wholeAs
 use Rattle.capsule.specs.declared.short.Inside.the-variants as insideAs
-use Rattle.capsule.specs.Kinds.{kindOf, extentBy, extentOf, reportBy, reportOf, judged, finishes, finishesIn, forwards, gathers, keepsBy, keeps}
-use Rattle.capsule.specs.Calls.{Lent, lent, lentVerdict}
+use Rattle.opening.specs.Kinds.{kindOf, extentBy, extentOf, reportBy, reportOf, judged, finishes, forwards, gathers, keepsBy, keeps}
+use Rattle.capsule.specs.Calls.{Lent, lent, lentVerdict, finishesIn}
 use Rattle.capsule.specs.Reader.{noBytes, fresh, isOpening, isMakeablePhase, isMakeable, verdictOf, planValue, planType, planOf, heldOf, wrote, stored, lengthOf, judgedIn, Feeding, feeding, feedOf}
 use Rattle.capsule.specs.Moves.{Wrote}
 use Rattle.capsule.specs.Short.{shortHeader, isPlain, isShort, WholeFed, wholeFed, wholeIn, wholeBy, wholeOf, inValue, InsideFed, insideFed, insideIn, insideBy, insideOf}

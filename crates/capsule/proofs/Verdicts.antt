@@ -4,14 +4,14 @@ use Rattle.refusals.specs.declared.Refusal.{Refusal}
 use Rattle.refusals.specs.Numbers.{unmakeableState, finished, gatheringTooShort, addressesTooShort, outputTooShort}
 use Rattle.wire.proofs.Reading.{split}
 use Rattle.wire.proofs.Parts.{parted}
-use Rattle.capsule.specs.declared.opening.Role.the-variants.{Endpoint, Intermediary}
-use Rattle.capsule.specs.declared.opening.Opening.{Opening}
+use Rattle.opening.specs.declared.Role.the-variants.{Endpoint, Intermediary}
+use Rattle.opening.specs.declared.Opening.{Opening}
 use Rattle.capsule.specs.declared.reader.Reader.{Reader}
 use Rattle.capsule.specs.declared.reader.FeedAnswer.the-variants as fedAs
 use Rattle.capsule.specs.declared.reader.Verdict.{Verdict}
 use Rattle.capsule.specs.declared.reader.Verdict.the-variants.{Accepted, Refused}
 use Rattle.addresses.specs.Addresses.{longestAddressValue}
-use Rattle.capsule.specs.Kinds.{optedBy, opted}
+use Rattle.opening.specs.Kinds.{optedBy, opted}
 use Rattle.capsule.specs.Calls.{Lent, outputVerdict, addressesVerdict, lentVerdict}
 use Rattle.capsule.specs.Reader.{isOpening, isMakeablePhase, isMakeable, verdictOf, feeding, takeOf, feedBy, feedOf}
 use Rattle.capsule.proofs.Planning.{zero-one, no-true}

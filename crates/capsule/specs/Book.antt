@@ -5,8 +5,8 @@ use mathlib.Core.Option.{Option, none, some}
 use mathlib.Core.List.{List, [], _∷_, _++_}
 use lib.ListN.{length, drop}
 use Rattle.refusals.specs.Numbers.{finished}
-use Rattle.capsule.specs.declared.opening.Opening.{Opening}
-use Rattle.capsule.specs.declared.opening.Report.{Report}
+use Rattle.opening.specs.declared.Opening.{Opening}
+use Rattle.opening.specs.declared.Report.{Report}
 use Rattle.capsule.specs.declared.reader.Ended.{Ended}
 use Rattle.capsule.specs.declared.reader.Ended.the-variants.{Nothing, Capsule}
 use Rattle.capsule.specs.declared.reader.CloseAnswer.{CloseAnswer}
@@ -15,8 +15,8 @@ use Rattle.capsule.specs.declared.reader.Verdict.{Verdict}
 use Rattle.capsule.specs.declared.reader.Verdict.the-variants.{Accepted, Refused}
 use Rattle.capsule.specs.Grammar as grammar
 use Rattle.capsule.specs.Grammar.{Stage, inType, inLength, inValue, Parts, partsBy}
-use Rattle.capsule.specs.Kinds.{extentOf, reportOf, judged, finishesIn, onlyDelivered, forwards}
-use Rattle.capsule.specs.Calls.{Lent, Call, feed, close, Reply, refused, fed, closed, lentVerdict}
+use Rattle.opening.specs.Kinds.{extentOf, reportOf, judged, onlyDelivered, forwards}
+use Rattle.capsule.specs.Calls.{Lent, Call, feed, close, Reply, refused, fed, closed, lentVerdict, finishesIn}
 
 -- ---- the stream, as the opening has it read: the ONE place where it is asked what is complete
 

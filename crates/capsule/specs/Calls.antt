@@ -5,15 +5,16 @@ use mathlib.Core.List.{List, [], _∷_}
 use lib.Dec.{leb}
 use Rattle.refusals.specs.declared.Refusal.{Refusal}
 use Rattle.refusals.specs.Numbers.{gatheringTooShort, addressesTooShort, outputTooShort}
-use Rattle.capsule.specs.declared.opening.Role.{Role}
-use Rattle.capsule.specs.declared.opening.Role.the-variants.{Endpoint, Intermediary}
-use Rattle.capsule.specs.declared.opening.Opening.{Opening}
+use Rattle.opening.specs.declared.Role.{Role}
+use Rattle.opening.specs.declared.Role.the-variants.{Endpoint, Intermediary}
+use Rattle.opening.specs.declared.Opening.{Opening}
 use Rattle.capsule.specs.declared.reader.Ended.{Ended}
+use Rattle.capsule.specs.declared.reader.Ended.the-variants.{Nothing, Capsule}
 use Rattle.capsule.specs.declared.reader.CloseAnswer.{CloseAnswer}
 use Rattle.capsule.specs.declared.reader.Verdict.{Verdict}
 use Rattle.capsule.specs.declared.reader.Verdict.the-variants.{Accepted, Refused}
 use Rattle.addresses.specs.Addresses.{longestAddressValue}
-use Rattle.capsule.specs.Kinds.{opted}
+use Rattle.opening.specs.Kinds.{opted, finishes}
 
 -- the buffers that a feeding is lent: the second one is for address capsules
 pub record Lent : Type 0 where
@@ -34,6 +35,11 @@ pub data Reply : Type 0 where
   refused : Refusal → Reply
   fed : (consumed written : ℕ) (wrote : List ℕ) (ended : Ended) (payload : List ℕ) → Reply
   closed : CloseAnswer → Reply
+
+-- whether nothing may follow what ended
+unfoldable pub finishesIn : Ended → Bool
+finishesIn Nothing = false
+finishesIn (Capsule r) = finishes r
 
 -- refusals 4, 18 and 5 of a feeding go by the lengths alone
 unfoldable pub outputVerdict : Role → ℕ → ℕ → Verdict

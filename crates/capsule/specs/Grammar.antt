@@ -8,7 +8,7 @@ use Rattle.wire.specs.declared.varint.Varint.the-variants.{Incomplete, Whole}
 use Rattle.wire.specs.Varint.{readVarint}
 
 -- How many value bytes complete a capsule, by its type and its length. The grammar's is the length itself; the book's asks the opening
--- (`extentOf` of Kinds).
+-- (`extentOf` of the crate `opening`).
 abbrev pub Extent : Type 0
 Extent = ℕ → ℕ → ℕ
 

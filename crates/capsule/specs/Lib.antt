@@ -1,5 +1,4 @@
 pub mod Grammar
-pub mod Kinds
 pub mod Calls
 pub mod Book
 pub mod State

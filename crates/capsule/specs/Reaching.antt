@@ -3,11 +3,11 @@ use Prim.Native.Nat.{ℕ, _≤_}
 use mathlib.Core.Path.{_≡_}
 use mathlib.Core.List.{List}
 use lib.ListN.{length}
-use Rattle.capsule.specs.declared.opening.Opening.{Opening}
+use Rattle.opening.specs.declared.Opening.{Opening}
 use Rattle.capsule.specs.declared.plan.Plan.{Plan}
 use Rattle.capsule.specs.declared.plan.Reached.{Reached}
 use Rattle.capsule.specs.declared.plan.Reached.the-variants.{Stops, Value}
-use Rattle.capsule.specs.Kinds.{extentOf}
+use Rattle.opening.specs.Kinds.{extentOf}
 use Rattle.capsule.specs.Reader.{planValue}
 
 unfoldable pub planBy : Opening → List ℕ → Reached → Plan

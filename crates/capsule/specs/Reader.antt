@@ -10,10 +10,10 @@ use Rattle.wire.specs.declared.partial.Partial.{Partial}
 use Rattle.wire.specs.declared.partial.Taken.the-variants.{Impossible, More, Ends}
 use Rattle.wire.specs.Varint.{largest}
 use Rattle.wire.specs.Partial.{partial, heldBytes, isPartial, takeVarint}
-use Rattle.capsule.specs.declared.opening.Role.{Role}
-use Rattle.capsule.specs.declared.opening.Opening.{Opening}
-use Rattle.capsule.specs.declared.opening.Report.{Report}
-use Rattle.capsule.specs.declared.opening.Report.the-variants.{Delivered, Dropped, Skipped, Passed, AddressDelivered, Malformed}
+use Rattle.opening.specs.declared.Role.{Role}
+use Rattle.opening.specs.declared.Opening.{Opening}
+use Rattle.opening.specs.declared.Report.{Report}
+use Rattle.opening.specs.declared.Report.the-variants.{Delivered, Dropped, Skipped, Passed, AddressDelivered, Malformed}
 use Rattle.capsule.specs.declared.plan.Plan.{Plan}
 use Rattle.capsule.specs.declared.reader.Phase.{Phase}
 use Rattle.capsule.specs.declared.reader.Phase.the-variants.{InType, InLength, InValue}
@@ -29,8 +29,8 @@ use Rattle.capsule.specs.declared.reader.CloseAnswer.the-variants as clo
 use Rattle.capsule.specs.declared.reader.Closed.{Closed}
 use Rattle.capsule.specs.declared.reader.Verdict.{Verdict}
 use Rattle.capsule.specs.declared.reader.Verdict.the-variants.{Accepted, Refused}
-use Rattle.capsule.specs.Kinds.{extentOf, reportOf, judged, finishesIn, onlyDelivered, forwards, gathers, keeps}
-use Rattle.capsule.specs.Calls.{Lent, lent, Call, feed, close, Reply, refused, fed, closed, lentVerdict}
+use Rattle.opening.specs.Kinds.{extentOf, reportOf, judged, onlyDelivered, forwards, gathers, keeps}
+use Rattle.capsule.specs.Calls.{Lent, lent, Call, feed, close, Reply, refused, fed, closed, lentVerdict, finishesIn}
 use Rattle.capsule.specs.Book.{onlyIf}
 
 -- ---- opening

@@ -4,7 +4,7 @@ use mathlib.Core.Bool.{Bool, true, false, cond}
 use mathlib.Core.List.{List}
 use lib.ListN.{length, getD}
 use lib.Dec.{leb, ltb, eqb}
-use Rattle.capsule.specs.declared.opening.Opening.{Opening}
+use Rattle.opening.specs.declared.Opening.{Opening}
 use Rattle.capsule.specs.declared.plan.Header.{Header}
 use Rattle.capsule.specs.declared.plan.Header.the-variants.{Long, Short}
 use Rattle.capsule.specs.declared.reader.Phase.{Phase}
@@ -17,9 +17,9 @@ use Rattle.capsule.specs.declared.short.Whole.{Whole}
 use Rattle.capsule.specs.declared.short.Whole.the-variants as wholeAs
 use Rattle.capsule.specs.declared.short.Inside.{Inside}
 use Rattle.capsule.specs.declared.short.Inside.the-variants as insideAs
-use Rattle.capsule.specs.declared.opening.Kind.{Kind}
-use Rattle.capsule.specs.declared.opening.Kind.the-variants.{Datagram, Address, Unknown}
-use Rattle.capsule.specs.Kinds.{kindOf}
+use Rattle.opening.specs.declared.Kind.{Kind}
+use Rattle.opening.specs.declared.Kind.the-variants.{Datagram, Address, Unknown}
+use Rattle.opening.specs.Kinds.{kindOf}
 use Rattle.capsule.specs.Calls.{Lent}
 use Rattle.capsule.specs.Reader.{fresh, Feeding, feedOf}
 

@@ -4,12 +4,12 @@ use mathlib.Core.Bool.{Bool}
 use mathlib.Core.List.{List}
 use lib.ListN.{length, drop}
 use Rattle.wire.specs.Partial.{partialOf}
-use Rattle.capsule.specs.declared.opening.Opening.{Opening}
+use Rattle.opening.specs.declared.Opening.{Opening}
 use Rattle.capsule.specs.declared.reader.Phase.{Phase}
 use Rattle.capsule.specs.declared.reader.Phase.the-variants.{InType, InLength, InValue}
 use Rattle.capsule.specs.declared.reader.Reader.{Reader}
 use Rattle.capsule.specs.Grammar.{Stage, inType, inLength, inValue, Parts}
-use Rattle.capsule.specs.Kinds.{extentOf}
+use Rattle.opening.specs.Kinds.{extentOf}
 use Rattle.capsule.specs.Book.{partsFor, Book}
 
 -- of the tail r: the bytes of the field that it stands in; in a value, how many are to come

@@ -1,6 +1,5 @@
 // A stream of capsules (RFC 9297, section 3.2), read piece by piece.
 mod moves;
-pub mod opening;
 mod plan;
 pub mod reader;
 pub mod short;

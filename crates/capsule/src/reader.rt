@@ -3,21 +3,21 @@ ghost use mathlib.Core.Path.{_≡_};
 ghost use lib.ListN.{length};
 ghost use mathlib.Core.Bool.{true};
 ghost use Rattle.capsule.specs.declared.reader.Phase.the-variants.{InValue};
-ghost use Rattle.capsule.specs.declared.opening.Report.the-variants.{AddressDelivered};
+ghost use Rattle.opening.specs.declared.Report.the-variants.{AddressDelivered};
 ghost use Rattle.capsule.specs.declared.reader.Verdict.the-variants.{Accepted};
-ghost use Rattle.capsule.specs.Calls.{lent, lentVerdict};
-ghost use Rattle.capsule.specs.Kinds.{judged, finishes, finishesIn};
+ghost use Rattle.capsule.specs.Calls.{lent, lentVerdict, finishesIn};
+ghost use Rattle.opening.specs.Kinds.{judged, finishes};
 ghost use lib.ListN.{take};
 ghost use Rattle.capsule.specs.Reader.{openOf, isMakeablePhase, isMakeable, verdictOf, lengthOf, judgedIn, feeding, takeOf, feedOf, endAt, closeOf};
 use crate::moves::forward_bytes;
 use crate::moves::store_bytes;
-use crate::opening::Kind;
-use crate::opening::Opening;
-use crate::opening::Report;
-use crate::opening::Role;
 use crate::plan::held_of;
 use crate::plan::plan_of;
 use addresses::well_formed;
+use opening::Kind;
+use opening::Opening;
+use opening::Report;
+use opening::Role;
 use refusals::Refusal;
 use wire::partial::Partial;
 use wire::varint::Varint;
@@ -112,40 +112,38 @@ fn is_makeable_phase(op: Opening, phase: Phase) -> bool
     }
 }
 
-impl Opening {
-    // What the lengths of the piece and of the lent buffers refuse.
-    pub(crate) fn verdict(
-        self,
-        piece: usize,
-        gathering: usize,
-        addresses: usize,
-        output: usize,
-    ) -> Verdict
-        ensures { λ r. ⌜ r ≡ lentVerdict self piece gathering addresses output ⌝ }
-    {
-        if (gathering as u64) < self.limit {
-            return Verdict::Refused(Refusal::GATHERING_TOO_SHORT);
+// What the lengths of the piece and of the lent buffers refuse.
+pub(crate) fn lent_verdict(
+    op: Opening,
+    piece: usize,
+    gathering: usize,
+    addresses: usize,
+    output: usize,
+) -> Verdict
+    ensures { λ r. ⌜ r ≡ lentVerdict op piece gathering addresses output ⌝ }
+{
+    if (gathering as u64) < op.limit {
+        return Verdict::Refused(Refusal::GATHERING_TOO_SHORT);
+    }
+    let role = op.role;
+    match role {
+        Role::Endpoint => {
+            if !op.addresses {
+                return Verdict::Accepted;
+            }
+            if (addresses as u64) < Kind::LONGEST_ADDRESS_VALUE {
+                return Verdict::Refused(Refusal::ADDRESSES_TOO_SHORT);
+            }
+            Verdict::Accepted
         }
-        let role = self.role;
-        match role {
-            Role::Endpoint => {
-                if !self.addresses {
-                    return Verdict::Accepted;
-                }
-                if (addresses as u64) < Kind::LONGEST_ADDRESS_VALUE {
-                    return Verdict::Refused(Refusal::ADDRESSES_TOO_SHORT);
-                }
-                Verdict::Accepted
+        Role::Intermediary => {
+            if output < 8 {
+                return Verdict::Refused(Refusal::OUTPUT_TOO_SHORT);
             }
-            Role::Intermediary => {
-                if output < 8 {
-                    return Verdict::Refused(Refusal::OUTPUT_TOO_SHORT);
-                }
-                if output - 8 < piece {
-                    return Verdict::Refused(Refusal::OUTPUT_TOO_SHORT);
-                }
-                Verdict::Accepted
+            if output - 8 < piece {
+                return Verdict::Refused(Refusal::OUTPUT_TOO_SHORT);
             }
+            Verdict::Accepted
         }
     }
 }
@@ -194,7 +192,7 @@ impl Reader {
             return Verdict::Refused(Refusal::FINISHED);
         }
         let opening = self.opening;
-        opening.verdict(piece, gathering, addresses, output)
+        lent_verdict(opening, piece, gathering, addresses, output)
     }
 
     // A feeding that is not refused: plan first, then move the bytes.

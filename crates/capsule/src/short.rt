@@ -6,19 +6,20 @@ ghost use lib.ListN.{length};
 ghost use Rattle.capsule.specs.declared.plan.Header.the-variants.{Short};
 ghost use Rattle.capsule.specs.declared.reader.Verdict.the-variants.{Accepted};
 ghost use mathlib.Core.Bool.{true};
-ghost use Rattle.capsule.specs.Kinds.{kindOf};
+ghost use Rattle.opening.specs.Kinds.{kindOf};
 ghost use Rattle.capsule.specs.Calls.{lent};
 ghost use Rattle.capsule.specs.Reader.{fresh, verdictOf};
 ghost use Rattle.capsule.specs.Short.{shortHeader, isPlain, wholeFed, wholeOf, insideFed, insideOf};
 use crate::moves::forward_bytes;
 use crate::moves::store_bytes;
-use crate::opening::Kind;
-use crate::opening::Opening;
-use crate::opening::Report;
 use crate::plan::Header;
 use crate::plan::short_header;
 use crate::reader::Verdict;
 use crate::reader::is_makeable_value;
+use crate::reader::lent_verdict;
+use opening::Kind;
+use opening::Opening;
+use opening::Report;
 use wire::partial::Partial;
 
 pub enum Whole {
@@ -53,126 +54,130 @@ pub enum Inside {
     },
 }
 
-impl Opening {
-    // Whether this is no address capsule: those are left to the general way.
-    fn is_plain(self, ctype: u64) -> bool
-        ensures { λ r. ⌜ r ≡ isPlain (kindOf self ctype) ⌝ }
-    {
-        match self.kind(ctype) {
-            Kind::Datagram => true,
-            Kind::Address => false,
-            Kind::Unknown => true,
-        }
+// Whether this is no address capsule: those are left to the general way.
+fn is_plain(op: Opening, ctype: u64) -> bool
+    ensures { λ r. ⌜ r ≡ isPlain (kindOf op ctype) ⌝ }
+{
+    match op.kind(ctype) {
+        Kind::Datagram => true,
+        Kind::Address => false,
+        Kind::Unknown => true,
     }
+}
 
-    fn take_whole(
-        self,
-        piece: &[u8],
-        at: usize,
-        ctype: u64,
-        size: u64,
-        gathering: &mut [u8],
-        addresses: &[u8],
-        output: &mut [u8],
-    ) -> Whole
-        requires { ⌜ (verdictOf (fresh self) (length (now piece)) (length (now gathering)) (length (now addresses)) (length (now output)) ≡ Accepted) × (shortHeader (now piece) ≡ Short at ctype size) × (isPlain (kindOf self ctype) ≡ true) × (at ≤ length (now piece)) ⌝ }
-        ensures { λ r. ⌜ wholeFed r (lent (now (gathering .exit)) (now (addresses .entry)) (now (output .exit))) ≡ wholeOf self (now (piece .entry)) (lent (now (gathering .entry)) (now (addresses .entry)) (now (output .entry))) ⌝ }
-    {
-        let store = self.gathers(ctype, size);
-        let forward = self.forwards(ctype);
-        let room = (piece.len() - at) as u64;
-        if size > room {
-            let n = piece.len();
-            store_bytes(piece, gathering, store, at, n, 0);
-            let cut = forward_bytes(piece, output, forward, Partial::EMPTY, n);
-            return Whole::Cut {
-                written: cut,
-                ctype: ctype,
-                size: size,
-                left: size - room,
-            };
-        }
-        let end = at + (size as usize);
-        store_bytes(piece, gathering, store, at, end, 0);
-        let written = forward_bytes(piece, output, forward, Partial::EMPTY, end);
-        Whole::Took {
-            consumed: end,
-            written: written,
-            report: self.report(ctype, size),
-        }
-    }
-
-    // A feeding between two capsules.
-    pub fn feed_whole(
-        self,
-        piece: &[u8],
-        gathering: &mut [u8],
-        addresses: &[u8],
-        output: &mut [u8],
-    ) -> Whole
-        ensures { λ r. ⌜ wholeFed r (lent (now (gathering .exit)) (now (addresses .entry)) (now (output .exit))) ≡ wholeOf self (now (piece .entry)) (lent (now (gathering .entry)) (now (addresses .entry)) (now (output .entry))) ⌝ }
-    {
-        if self.limit > Opening::MAX_LIMIT {
-            return Whole::Not;
-        }
-        let verdict = self.verdict(piece.len(), gathering.len(), addresses.len(), output.len());
-        match verdict {
-            Verdict::Refused(_) => Whole::Not,
-            Verdict::Accepted => match short_header(piece) {
-                Header::Long => Whole::Not,
-                Header::Short { at, ctype, size } => {
-                    if !self.is_plain(ctype) {
-                        return Whole::Not;
-                    }
-                    self.take_whole(piece, at, ctype, size, gathering, addresses, output)
-                }
-            },
-        }
-    }
-
-    // A feeding within a value of which `left` bytes are to come.
-    pub fn feed_inside(
-        self,
-        ctype: u64,
-        size: u64,
-        left: u64,
-        piece: &[u8],
-        gathering: &mut [u8],
-        addresses: &[u8],
-        output: &mut [u8],
-    ) -> Inside
-        ensures { λ r. ⌜ insideFed r (lent (now (gathering .exit)) (now (addresses .entry)) (now (output .exit))) ≡ insideOf self ctype size left (now (piece .entry)) (lent (now (gathering .entry)) (now (addresses .entry)) (now (output .entry))) ⌝ }
-    {
-        if self.limit > Opening::MAX_LIMIT {
-            return Inside::Not;
-        }
-        if !self.is_plain(ctype) {
-            return Inside::Not;
-        }
-        if !is_makeable_value(self, ctype, size, left) {
-            return Inside::Not;
-        }
+fn take_whole(
+    op: Opening,
+    piece: &[u8],
+    at: usize,
+    ctype: u64,
+    size: u64,
+    gathering: &mut [u8],
+    addresses: &[u8],
+    output: &mut [u8],
+) -> Whole
+    requires { ⌜ (verdictOf (fresh op) (length (now piece)) (length (now gathering)) (length (now addresses)) (length (now output)) ≡ Accepted) × (shortHeader (now piece) ≡ Short at ctype size) × (isPlain (kindOf op ctype) ≡ true) × (at ≤ length (now piece)) ⌝ }
+    ensures { λ r. ⌜ wholeFed r (lent (now (gathering .exit)) (now (addresses .entry)) (now (output .exit))) ≡ wholeOf op (now (piece .entry)) (lent (now (gathering .entry)) (now (addresses .entry)) (now (output .entry))) ⌝ }
+{
+    let store = op.gathers(ctype, size);
+    let forward = op.forwards(ctype);
+    let room = (piece.len() - at) as u64;
+    if size > room {
         let n = piece.len();
-        let verdict = self.verdict(n, gathering.len(), addresses.len(), output.len());
-        match verdict {
-            Verdict::Refused(_) => Inside::Not,
-            Verdict::Accepted => {
-                let store = self.gathers(ctype, size);
-                let forward = self.forwards(ctype);
-                if left <= (n as u64) {
-                    let end = left as usize;
-                    store_bytes(piece, gathering, store, 0, end, size - left);
-                    let last = forward_bytes(piece, output, forward, Partial::EMPTY, end);
-                    return Inside::Ended {
-                        consumed: end,
-                        written: last,
-                        report: self.report(ctype, size),
-                    };
+        store_bytes(piece, gathering, store, at, n, 0);
+        let cut = forward_bytes(piece, output, forward, Partial::EMPTY, n);
+        return Whole::Cut {
+            written: cut,
+            ctype: ctype,
+            size: size,
+            left: size - room,
+        };
+    }
+    let end = at + (size as usize);
+    store_bytes(piece, gathering, store, at, end, 0);
+    let written = forward_bytes(piece, output, forward, Partial::EMPTY, end);
+    Whole::Took {
+        consumed: end,
+        written: written,
+        report: op.report(ctype, size),
+    }
+}
+
+// A feeding between two capsules.
+pub fn feed_whole(
+    op: Opening,
+    piece: &[u8],
+    gathering: &mut [u8],
+    addresses: &[u8],
+    output: &mut [u8],
+) -> Whole
+    ensures { λ r. ⌜ wholeFed r (lent (now (gathering .exit)) (now (addresses .entry)) (now (output .exit))) ≡ wholeOf op (now (piece .entry)) (lent (now (gathering .entry)) (now (addresses .entry)) (now (output .entry))) ⌝ }
+{
+    if op.limit > Opening::MAX_LIMIT {
+        return Whole::Not;
+    }
+    let verdict = lent_verdict(
+        op,
+        piece.len(),
+        gathering.len(),
+        addresses.len(),
+        output.len(),
+    );
+    match verdict {
+        Verdict::Refused(_) => Whole::Not,
+        Verdict::Accepted => match short_header(piece) {
+            Header::Long => Whole::Not,
+            Header::Short { at, ctype, size } => {
+                if !is_plain(op, ctype) {
+                    return Whole::Not;
                 }
-                store_bytes(piece, gathering, store, 0, n, size - left);
-                let written = forward_bytes(piece, output, forward, Partial::EMPTY, n);
-                Inside::Took { written: written }
+                take_whole(op, piece, at, ctype, size, gathering, addresses, output)
             }
+        },
+    }
+}
+
+// A feeding within a value of which `left` bytes are to come.
+pub fn feed_inside(
+    op: Opening,
+    ctype: u64,
+    size: u64,
+    left: u64,
+    piece: &[u8],
+    gathering: &mut [u8],
+    addresses: &[u8],
+    output: &mut [u8],
+) -> Inside
+    ensures { λ r. ⌜ insideFed r (lent (now (gathering .exit)) (now (addresses .entry)) (now (output .exit))) ≡ insideOf op ctype size left (now (piece .entry)) (lent (now (gathering .entry)) (now (addresses .entry)) (now (output .entry))) ⌝ }
+{
+    if op.limit > Opening::MAX_LIMIT {
+        return Inside::Not;
+    }
+    if !is_plain(op, ctype) {
+        return Inside::Not;
+    }
+    if !is_makeable_value(op, ctype, size, left) {
+        return Inside::Not;
+    }
+    let n = piece.len();
+    let verdict = lent_verdict(op, n, gathering.len(), addresses.len(), output.len());
+    match verdict {
+        Verdict::Refused(_) => Inside::Not,
+        Verdict::Accepted => {
+            let store = op.gathers(ctype, size);
+            let forward = op.forwards(ctype);
+            if left <= (n as u64) {
+                let end = left as usize;
+                store_bytes(piece, gathering, store, 0, end, size - left);
+                let last = forward_bytes(piece, output, forward, Partial::EMPTY, end);
+                return Inside::Ended {
+                    consumed: end,
+                    written: last,
+                    report: op.report(ctype, size),
+                };
+            }
+            store_bytes(piece, gathering, store, 0, n, size - left);
+            let written = forward_bytes(piece, output, forward, Partial::EMPTY, n);
+            Inside::Took { written: written }
         }
     }
 }

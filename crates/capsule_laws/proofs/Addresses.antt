@@ -4,23 +4,23 @@ use Rattle.refusals.specs.Numbers.{unmakeableState, finished, gatheringTooShort
 use Rattle.refusals.specs.declared.Refusal.{Refusal}
 use Rattle.wire.proofs.Parts.{both, parted}
 use Rattle.addresses.specs.Addresses.{isAddressType, longestAddressValue, wellFormed}
-use Rattle.capsule.specs.declared.opening.Role.{Role}
-use Rattle.capsule.specs.declared.opening.Role.the-variants.{Endpoint, Intermediary}
-use Rattle.capsule.specs.declared.opening.Kind.{Kind}
-use Rattle.capsule.specs.declared.opening.Kind.the-variants.{Datagram, Address, Unknown}
-use Rattle.capsule.specs.declared.opening.Opening.{Opening}
-use Rattle.capsule.specs.declared.opening.Report.{Report}
-use Rattle.capsule.specs.declared.opening.Report.the-variants.{Delivered, Dropped, AddressDelivered, Malformed}
+use Rattle.opening.specs.declared.Role.{Role}
+use Rattle.opening.specs.declared.Role.the-variants.{Endpoint, Intermediary}
+use Rattle.opening.specs.declared.Kind.{Kind}
+use Rattle.opening.specs.declared.Kind.the-variants.{Datagram, Address, Unknown}
+use Rattle.opening.specs.declared.Opening.{Opening}
+use Rattle.opening.specs.declared.Report.{Report}
+use Rattle.opening.specs.declared.Report.the-variants.{Delivered, Dropped, AddressDelivered, Malformed}
 use Rattle.capsule.specs.declared.reader.FeedAnswer.the-variants as fedAs
 use Rattle.capsule.specs.declared.reader.Reader.{Reader}
 use Rattle.capsule.specs.declared.reader.Verdict.{Verdict}
 use Rattle.capsule.specs.declared.reader.Verdict.the-variants.{Accepted, Refused}
 use Rattle.capsule.specs.Grammar.{Capsule}
-use Rattle.capsule.specs.Kinds.{opted, optedBy, kindOf, extentBy, extentOf, reportBy, reportOf, judged, gathersBy, gathers, keepsBy, keeps}
+use Rattle.opening.specs.Kinds.{opted, optedBy, kindOf, extentBy, extentOf, reportBy, reportOf, judged, gathersBy, gathers, keepsBy, keeps}
 use Rattle.capsule.specs.Calls.{Lent, outputVerdict, addressesVerdict, lentVerdict}
 use Rattle.capsule.specs.Book.{reported}
 use Rattle.capsule.specs.Reader.{openOf, isOpening, isMakeable, verdictOf, fedBy, takeOf, feedBy, feedOf}
-use Rattle.capsule.proofs.Kinding.{kind-address}
+use Rattle.opening.proofs.Kinding.{kind-address}
 use Rattle.capsule.proofs.Planning.{zero-one, no-true}
 use Rattle.capsule.proofs.Verdicts.{endpoint-on, addresses-short}
 use Rattle.capsule_laws.specs.Before as before

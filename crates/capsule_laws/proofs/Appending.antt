@@ -1,9 +1,9 @@
 -- What the book makes of a piece, in one step: by what stands at the front of the tail and the piece. Assumes nothing.
 use Rattle.walks.proofs.Words.{_≡_, refl, sym, ap, _∙_, subst, ℕ, suc, _+_, _-_, _≤_, _<_, arith, none, some, List, [], _∷_, _++_, append-assoc, append-nil, length, take, drop, length-append, take-append-drop, drop-append-seam, length-take-le}
 use Rattle.wire.specs.Bytes.{Bytes}
-use Rattle.capsule.specs.declared.opening.Opening.{Opening}
+use Rattle.opening.specs.declared.Opening.{Opening}
 use Rattle.capsule.specs.Grammar.{Extent, Stage, inType, Front, part, whole, frontBy, Capsule, capsuleAt, Parts, ahead}
-use Rattle.capsule.specs.Kinds.{extentOf}
+use Rattle.opening.specs.Kinds.{extentOf}
 use Rattle.capsule.specs.Book.{partsFor, firstOf, completes, Taken, append}
 use Rattle.capsule_laws.proofs.Grammar.{Sees, front-is, sees, complete, next, parts-is, parts-cut, parts-nil, parts-append, parts-part, parts-one, part-none, tail-sees, tail-bytes}
 

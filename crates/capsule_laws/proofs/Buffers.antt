@@ -1,9 +1,9 @@
 -- What a feeding stores in the two buffers for values. Assumes nothing.
 use Rattle.walks.proofs.Words.{_≡_, refl, sym, ap, _∙_, ℕ, _+_, _-_, _<_, arith, Bool, false, cond, List, _++_, length, take, drop, length-append, length-drop, sets, take-all, drop-append-add}
-use Rattle.capsule.specs.declared.opening.Opening.{Opening}
+use Rattle.opening.specs.declared.Opening.{Opening}
 use Rattle.capsule.specs.declared.plan.Plan.{Plan}
 use Rattle.capsule.specs.Grammar.{inType, inLength, inValue, Front, part, whole, frontBy}
-use Rattle.capsule.specs.Kinds.{extentOf, gathers, keeps}
+use Rattle.opening.specs.Kinds.{extentOf, gathers, keeps}
 use Rattle.capsule.specs.Book.{partsFor}
 use Rattle.capsule.specs.State.{phaseOf, readerOf}
 use Rattle.capsule.specs.Reader.{planHead, planOf, stored, Feeding, fedBy, takeOf, feedBy, feedOf}

@@ -2,9 +2,9 @@
 use Rattle.walks.proofs.Words.{_≡_, refl, sym, ap, _∙_, subst, ℕ, _+_, arith, Bool, true, false, cond, List, [], _∷_, _++_, append-assoc, append-nil, length, take, length-append, take-length}
 use Rattle.refusals.specs.Numbers.{unmakeableState, finished}
 use Rattle.wire.specs.Bytes.{Bytes}
-use Rattle.capsule.specs.declared.opening.Role.{Role}
-use Rattle.capsule.specs.declared.opening.Opening.{Opening}
-use Rattle.capsule.specs.declared.opening.Report.{Report}
+use Rattle.opening.specs.declared.Role.{Role}
+use Rattle.opening.specs.declared.Opening.{Opening}
+use Rattle.opening.specs.declared.Report.{Report}
 use Rattle.capsule.specs.declared.plan.Plan.{Plan}
 use Rattle.capsule.specs.declared.reader.CloseAnswer.{CloseAnswer}
 use Rattle.capsule.specs.declared.reader.CloseAnswer.the-variants as closedAs
@@ -14,8 +14,8 @@ use Rattle.capsule.specs.declared.reader.Reader.{Reader}
 use Rattle.capsule.specs.declared.reader.Verdict.{Verdict}
 use Rattle.capsule.specs.declared.reader.Verdict.the-variants.{Accepted, Refused}
 use Rattle.capsule.specs.Grammar.{Front, part, whole, frontBy, Capsule, Parts, parts}
-use Rattle.capsule.specs.Kinds.{extentOf, reportOf, finishesIn}
-use Rattle.capsule.specs.Calls.{Lent, Call, feed, close, Reply, refused, fed, closed, run}
+use Rattle.opening.specs.Kinds.{extentOf, reportOf}
+use Rattle.capsule.specs.Calls.{Lent, Call, feed, close, Reply, refused, fed, closed, run, finishesIn}
 use Rattle.capsule.specs.Book.{partsFor}
 use Rattle.capsule.specs.State.{phaseOf, readerOf}
 use Rattle.capsule.specs.Reader.{opening, openOf, isMakeable, verdictOf, planOf, judgedIn, fedBy, takeOf, feedBy, feedOf, feedReply, endAt, closing, closeOf, closeReply, readerCall}

@@ -6,9 +6,9 @@ use Rattle.wire.specs.Varint.{readVarint}
 use Rattle.wire.specs.Partial.{heldBytes}
 use Rattle.wire.proofs.Reading.{reads, whole-incomplete}
 use Rattle.wire.proofs.Parts.{held-partial}
-use Rattle.capsule.specs.declared.opening.Opening.{Opening}
+use Rattle.opening.specs.declared.Opening.{Opening}
 use Rattle.capsule.specs.Grammar.{Extent, Stage, inType, inLength, inValue, Front, part, whole, frontBy, Capsule, capsuleAt, Parts}
-use Rattle.capsule.specs.Kinds.{extentOf, forwards}
+use Rattle.opening.specs.Kinds.{extentOf, forwards}
 use Rattle.capsule.specs.Book.{partsFor, onlyIf, fromCapsules, fromTail, fromParts, forwarded}
 use Rattle.capsule.specs.State.{phaseAt}
 use Rattle.capsule.specs.Reader.{planHead, heldOf, wrote}

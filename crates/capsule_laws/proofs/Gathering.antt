@@ -3,17 +3,17 @@ use Rattle.walks.proofs.Words.{_≡_, refl, sym, ap, _∙_, subst, ℕ, _+_, _-
 use Rattle.wire.specs.declared.varint.Varint.the-variants.{Whole}
 use Rattle.wire.specs.Varint.{readVarint}
 use Rattle.wire.proofs.Reading.{split, reads}
-use Rattle.capsule.specs.declared.opening.Opening.{Opening}
-use Rattle.capsule.specs.declared.opening.Role.{Role}
-use Rattle.capsule.specs.declared.opening.Role.the-variants.{Endpoint, Intermediary}
-use Rattle.capsule.specs.declared.opening.Kind.{Kind}
-use Rattle.capsule.specs.declared.opening.Kind.the-variants.{Datagram, Address, Unknown}
-use Rattle.capsule.specs.declared.opening.Report.{Report}
-use Rattle.capsule.specs.declared.opening.Report.the-variants.{Delivered, Dropped, Skipped, Passed, AddressDelivered, Malformed}
+use Rattle.opening.specs.declared.Opening.{Opening}
+use Rattle.opening.specs.declared.Role.{Role}
+use Rattle.opening.specs.declared.Role.the-variants.{Endpoint, Intermediary}
+use Rattle.opening.specs.declared.Kind.{Kind}
+use Rattle.opening.specs.declared.Kind.the-variants.{Datagram, Address, Unknown}
+use Rattle.opening.specs.declared.Report.{Report}
+use Rattle.opening.specs.declared.Report.the-variants.{Delivered, Dropped, Skipped, Passed, AddressDelivered, Malformed}
 use Rattle.capsule.specs.declared.plan.Plan.{Plan}
 use Rattle.capsule.specs.Grammar.{Extent, Stage, inValue, part, whole}
 use Rattle.addresses.specs.Addresses.{longestAddressValue, wellFormed}
-use Rattle.capsule.specs.Kinds.{kindOf, opted, extentOf, reportBy, reportOf, judged, onlyDelivered, gathersBy, gathers, keepsBy, keeps}
+use Rattle.opening.specs.Kinds.{kindOf, opted, extentOf, reportBy, reportOf, judged, onlyDelivered, gathersBy, gathers, keepsBy, keeps}
 use Rattle.capsule.specs.Reader.{stored, lengthOf}
 use Rattle.capsule_laws.specs.Claims.{StandsAt}
 use Rattle.capsule_laws.proofs.Grammar.{Sees, seesType, seesLength, seesValue, seesWhole, head-stays, head-fits, drop-take}

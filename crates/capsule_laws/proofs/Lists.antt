@@ -9,8 +9,8 @@ use Rattle.wire.specs.Partial.{partialOf, heldBytes}
 use Rattle.wire.proofs.Numbers.{bytes-drop, length-bytesOf}
 use Rattle.wire.proofs.Reading.{read-bounds, no-whole-nil}
 use Rattle.wire.proofs.Parts.{both, partial-occurs}
-use Rattle.capsule.specs.declared.opening.Opening.{Opening}
-use Rattle.capsule.specs.declared.opening.Role.{Role}
+use Rattle.opening.specs.declared.Opening.{Opening}
+use Rattle.opening.specs.declared.Role.{Role}
 use Rattle.capsule.specs.declared.plan.Plan.{Plan}
 use Rattle.capsule.specs.declared.reader.Phase.{Phase}
 use Rattle.capsule.specs.declared.reader.Reader.{Reader}
@@ -22,7 +22,7 @@ use Rattle.capsule.specs.declared.reader.Verdict.{Verdict}
 use Rattle.capsule.specs.declared.reader.Verdict.the-variants.{Accepted, Refused}
 use Rattle.capsule.specs.Grammar.{Stage, inType, inLength, inValue, part, Parts}
 use Rattle.addresses.specs.Addresses.{longestAddressValue}
-use Rattle.capsule.specs.Kinds.{opted, extentOf, gathers, keeps}
+use Rattle.opening.specs.Kinds.{opted, extentOf, gathers, keeps}
 use Rattle.capsule.specs.Calls.{Lent, Call, feed, close, Reply, closed, run}
 use Rattle.capsule.specs.Book.{partsFor, onlyIf, forwarded, append, Book, newBook, bookVerdict, gained, bookFeed, endOf, bookClose, bookCall}
 use Rattle.capsule.specs.State.{phaseAt, phaseOf, readerOf, ofBook}

@@ -10,9 +10,9 @@ use Rattle.wire.specs.Partial.{partialOf, heldBytes, isPartial}
 use Rattle.wire.proofs.Numbers.{bytes-append, bytesOf-bytes, length-bytesOf}
 use Rattle.wire.proofs.Encoding.{every-form-read}
 use Rattle.wire.proofs.Parts.{both, parted, held-bytes, held-read, partial-held}
-use Rattle.capsule.specs.declared.opening.Role.{Role}
-use Rattle.capsule.specs.declared.opening.Role.the-variants.{Endpoint, Intermediary}
-use Rattle.capsule.specs.declared.opening.Opening.{Opening}
+use Rattle.opening.specs.declared.Role.{Role}
+use Rattle.opening.specs.declared.Role.the-variants.{Endpoint, Intermediary}
+use Rattle.opening.specs.declared.Opening.{Opening}
 use Rattle.capsule.specs.declared.reader.Phase.{Phase}
 use Rattle.capsule.specs.declared.reader.Phase.the-variants.{InType, InLength, InValue}
 use Rattle.capsule.specs.declared.reader.FeedAnswer.the-variants as fedAs
@@ -23,8 +23,8 @@ use Rattle.capsule.specs.declared.reader.Verdict.{Verdict}
 use Rattle.capsule.specs.declared.reader.Verdict.the-variants.{Accepted, Refused}
 use Rattle.capsule.specs.Grammar.{Stage, inType, inLength, inValue, part, Parts}
 use Rattle.addresses.specs.Addresses.{longestAddressValue}
-use Rattle.capsule.specs.Kinds.{opted, extentOf, finishesIn, gathers, keeps}
-use Rattle.capsule.specs.Calls.{Lent, lent, Call, feed, close, Reply, refused, outputVerdict, addressesVerdict, lentVerdict, run}
+use Rattle.opening.specs.Kinds.{opted, extentOf, gathers, keeps}
+use Rattle.capsule.specs.Calls.{Lent, lent, Call, feed, close, Reply, refused, outputVerdict, addressesVerdict, lentVerdict, run, finishesIn}
 use Rattle.capsule.specs.Book.{partsFor, Taken, append, endedBy, Book, newBook, bookVerdict, bookFeed, bookClose, bookCall}
 use Rattle.capsule.specs.State.{phaseAt, phaseOf, readerOf, ofBook}
 use Rattle.capsule.specs.Reader.{opening, fresh, isOpening, openOf, isMakeablePhase, isMakeable, verdictOf, planOf, fedBy, takeOf, feedBy, feedOf, endAt, closing, closeOf, readerCall}

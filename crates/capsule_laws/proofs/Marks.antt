@@ -1,21 +1,21 @@
 -- What sets the finished mark, and that nothing comes after it. Assumes nothing.
 use Rattle.walks.proofs.Words.{_≡_, refl, sym, ap, _∙_, subst, ℕ, Bool, true, false, cond, _||_, List, [], _∷_, _++_, map, leb}
 use Rattle.refusals.specs.Numbers.{finished}
-use Rattle.capsule.specs.declared.opening.Opening.{Opening}
+use Rattle.opening.specs.declared.Opening.{Opening}
 use Rattle.capsule.specs.declared.reader.Verdict.{Verdict}
 use Rattle.capsule.specs.declared.reader.Verdict.the-variants.{Accepted, Refused}
-use Rattle.capsule.specs.declared.opening.Role.{Role}
-use Rattle.capsule.specs.declared.opening.Kind.{Kind}
-use Rattle.capsule.specs.declared.opening.Kind.the-variants.{Datagram, Address, Unknown}
-use Rattle.capsule.specs.declared.opening.Report.{Report}
-use Rattle.capsule.specs.declared.opening.Report.the-variants.{AddressDelivered, Malformed}
+use Rattle.opening.specs.declared.Role.{Role}
+use Rattle.opening.specs.declared.Kind.{Kind}
+use Rattle.opening.specs.declared.Kind.the-variants.{Datagram, Address, Unknown}
+use Rattle.opening.specs.declared.Report.{Report}
+use Rattle.opening.specs.declared.Report.the-variants.{AddressDelivered, Malformed}
 use Rattle.capsule.specs.declared.reader.Ended.{Ended}
 use Rattle.capsule.specs.declared.reader.Ended.the-variants as ended
 use Rattle.capsule.specs.declared.reader.Ended.the-variants.{Nothing}
 use Rattle.capsule.specs.Grammar.{Capsule}
 use Rattle.addresses.specs.Addresses.{longestAddressValue}
-use Rattle.capsule.specs.Kinds.{kindOf, extentBy, extentOf, reportBy, reportOf, judged, finishes, finishesIn}
-use Rattle.capsule.specs.Calls.{Call, feed, close, Reply, refused, fed, closed, run}
+use Rattle.opening.specs.Kinds.{kindOf, extentBy, extentOf, reportBy, reportOf, judged, finishes}
+use Rattle.capsule.specs.Calls.{Call, feed, close, Reply, refused, fed, closed, run, finishesIn}
 use Rattle.capsule.specs.Book.{partsFor, reported, Book, newBook, bookVerdict, bookFeed, bookClose, bookCall}
 use Rattle.capsule_laws.specs.Claims.{reportsIn, reports, Short, AllShort, marksIn, anyMarks, AllFinished, NothingAfter, MarkedExactly, NoneFinish, GrammarUnlessMalformed, UnmarkedGrammar}
 use Rattle.capsule.proofs.Planning.{no-true}

@@ -4,13 +4,13 @@ use Rattle.wire.specs.declared.partial.Partial.{Partial}
 use Rattle.wire.specs.declared.partial.Taken.the-variants.{Impossible, More, Ends}
 use Rattle.wire.specs.declared.partial.Taken as wire
 use Rattle.wire.specs.Partial.{takeVarint}
-use Rattle.capsule.specs.declared.opening.Role.{Role}
-use Rattle.capsule.specs.declared.opening.Role.the-variants.{Endpoint, Intermediary}
-use Rattle.capsule.specs.declared.opening.Kind.{Kind}
-use Rattle.capsule.specs.declared.opening.Kind.the-variants.{Datagram, Unknown}
-use Rattle.capsule.specs.declared.opening.Opening.{Opening}
-use Rattle.capsule.specs.declared.opening.Report.{Report}
-use Rattle.capsule.specs.declared.opening.Report.the-variants.{Delivered, Dropped, Skipped, Passed}
+use Rattle.opening.specs.declared.Role.{Role}
+use Rattle.opening.specs.declared.Role.the-variants.{Endpoint, Intermediary}
+use Rattle.opening.specs.declared.Kind.{Kind}
+use Rattle.opening.specs.declared.Kind.the-variants.{Datagram, Unknown}
+use Rattle.opening.specs.declared.Opening.{Opening}
+use Rattle.opening.specs.declared.Report.{Report}
+use Rattle.opening.specs.declared.Report.the-variants.{Delivered, Dropped, Skipped, Passed}
 use Rattle.capsule.specs.declared.plan.Plan.{Plan}
 use Rattle.capsule.specs.declared.reader.Phase.{Phase}
 use Rattle.capsule.specs.declared.reader.Phase.the-variants.{InType, InLength, InValue}
@@ -23,8 +23,8 @@ use Rattle.capsule.specs.declared.reader.Verdict.{Verdict}
 use Rattle.capsule.specs.declared.reader.Verdict.the-variants.{Accepted, Refused}
 use Rattle.capsule.specs.Grammar as grammar
 use Rattle.capsule.specs.Grammar.{Extent, Stage, inType, inLength, inValue, partsBy, parts}
-use Rattle.capsule.specs.Kinds.{opted, kindOf, extentBy, extentOf, reportBy, reportOf, judged, finishes, finishesIn, onlyDelivered, forwardsBy, forwards, gathersBy, gathers, keepsBy, keeps}
-use Rattle.capsule.specs.Calls.{Lent, lent, feed, close, addressesVerdict, lentVerdict, run}
+use Rattle.opening.specs.Kinds.{opted, kindOf, extentBy, extentOf, reportBy, reportOf, judged, finishes, onlyDelivered, forwardsBy, forwards, gathersBy, gathers, keepsBy, keeps}
+use Rattle.capsule.specs.Calls.{Lent, lent, feed, close, addressesVerdict, lentVerdict, run, finishesIn}
 use Rattle.capsule.specs.Book.{partsFor, fromCapsules, fromTail, fromParts, forwarded, completes, Taken, append, reported, endedBy, payloadBy, Book, bookVerdict, gained, bookFeed, bookClose, bookCall}
 use Rattle.capsule.specs.Reader.{noBytes, isOpening, isMakeablePhase, isMakeable, verdictOf, planValue, planHead, planLength, planType, planOf, stored, lengthOf, judgedIn, feeding, fedBy, takeOf, feedBy, feedOf, endAt, closing, closeOf, frontOf, feedReply, readerCall}
 use Rattle.capsule.proofs.Planning.{length-impossible, length-more, length-ends, type-impossible, type-more, type-ends}

@@ -1,13 +1,13 @@
 -- Over a whole list of calls: reports, payloads and writes in order. Assumes nothing.
 use Rattle.walks.proofs.Words.{_≡_, refl, sym, ap, _∙_, subst, ℕ, Bool, true, false, _||_, Option, none, some, List, [], _∷_, _++_, append-assoc, append-nil, map, map-append, length, take, drop, drop-append-seam}
-use Rattle.capsule.specs.declared.opening.Opening.{Opening}
-use Rattle.capsule.specs.declared.opening.Report.{Report}
-use Rattle.capsule.specs.declared.opening.Report.the-variants.{Delivered, Dropped, Skipped, Passed, AddressDelivered, Malformed}
+use Rattle.opening.specs.declared.Opening.{Opening}
+use Rattle.opening.specs.declared.Report.{Report}
+use Rattle.opening.specs.declared.Report.the-variants.{Delivered, Dropped, Skipped, Passed, AddressDelivered, Malformed}
 use Rattle.capsule.specs.declared.reader.Verdict.{Verdict}
 use Rattle.capsule.specs.declared.reader.Verdict.the-variants.{Accepted, Refused}
 use Rattle.capsule.specs.Grammar.{Capsule, Parts}
-use Rattle.capsule.specs.Kinds.{finishesIn, onlyDelivered}
-use Rattle.capsule.specs.Calls.{Call, feed, close, Reply, refused, fed, closed, run}
+use Rattle.opening.specs.Kinds.{onlyDelivered}
+use Rattle.capsule.specs.Calls.{Call, feed, close, Reply, refused, fed, closed, run, finishesIn}
 use Rattle.refusals.specs.declared.Refusal.{Refusal}
 use Rattle.capsule.specs.declared.reader.CloseAnswer.{CloseAnswer}
 use Rattle.capsule.specs.Book.{partsFor, fromCapsules, fromTail, fromParts, forwarded, Taken, append, reported, endedBy, payloadBy, Book, newBook, bookVerdict, gained, bookFeed, bookClose, bookCall}

@@ -1,6 +1,6 @@
 -- The output of an accepted feeding: what is not written stays. Assumes nothing.
 use Rattle.walks.proofs.Words.{_≡_, refl, sym, ap, _∙_, subst, ℕ, _+_, _≤_, arith, Bool, true, false, List, [], length, drop, drop-append-seam, sets, sets-eq, length-sets}
-use Rattle.capsule.specs.declared.opening.Role.the-variants.{Endpoint}
+use Rattle.opening.specs.declared.Role.the-variants.{Endpoint}
 use Rattle.capsule.specs.declared.plan.Plan.{Plan}
 use Rattle.capsule.specs.declared.reader.Ended.{Ended}
 use Rattle.capsule.specs.declared.reader.FeedAnswer.the-variants as fedAs

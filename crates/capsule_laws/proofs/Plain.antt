@@ -1,8 +1,8 @@
 -- What the book reads for an opening, against document 01's grammar. Assumes nothing.
 use Rattle.walks.proofs.Words.{_≡_, sym, ap, _∙_, subst, ℕ, _+_, arith, List, [], _∷_, _++_, append-nil, length, take, drop, drop-length}
-use Rattle.capsule.specs.declared.opening.Opening.{Opening}
+use Rattle.opening.specs.declared.Opening.{Opening}
 use Rattle.capsule.specs.Grammar.{plain, Stage, inType, inValue, part, whole, Capsule, capsuleAt, Parts, ahead, partsBy, parts}
-use Rattle.capsule.specs.Kinds.{extentOf}
+use Rattle.opening.specs.Kinds.{extentOf}
 use Rattle.capsule.specs.Book.{partsFor}
 use Rattle.capsule.proofs.Planning.{zero-one, extent-most}
 use Rattle.capsule_laws.specs.Claims.{Short, ShortStage, AllShort, ByTheGrammar, StopsAtTooLong}

@@ -9,12 +9,12 @@ use Rattle.wire.specs.Partial.{partialOf, takenOf, takeVarint}
 use Rattle.wire.proofs.Numbers.{bytes-drop}
 use Rattle.wire.proofs.Reading.{split, reads, read-nil, whole-incomplete}
 use Rattle.wire.proofs.Parts.{goes-on, empty-is}
-use Rattle.capsule.specs.declared.opening.Opening.{Opening}
+use Rattle.opening.specs.declared.Opening.{Opening}
 use Rattle.capsule.specs.declared.plan.Plan.{Plan}
 use Rattle.capsule.specs.declared.reader.Phase.the-variants.{InType, InLength, InValue}
 use Rattle.capsule.specs.declared.reader.Ended.the-variants.{Nothing, Capsule}
 use Rattle.capsule.specs.Grammar.{Stage, inType, inLength, inValue, Front, part, whole, frontBy}
-use Rattle.capsule.specs.Kinds.{extentOf, reportOf, forwards, gathers, keeps}
+use Rattle.opening.specs.Kinds.{extentOf, reportOf, forwards, gathers, keeps}
 use Rattle.capsule.specs.State.{phaseAt}
 use Rattle.capsule.specs.Reader.{noBytes, planValue, planHead, planLength, planType, planOf}
 use Rattle.capsule_laws.proofs.Appending.{Shows}

@@ -1,17 +1,18 @@
 -- What an ended capsule reports and what is forwarded, for every role, limit, draft setting and opting in. Assumes nothing.
 use Rattle.walks.proofs.Words.{_≡_, refl, sym, ap, _∙_, _↔_, subst, ℕ, _≤_, _<_, Bool, true, false, cond, _&&_, _||_, List, [], _∷_, _++_, leb, eqb, leb-true, leb-false, le-leb, lt-leb}
 use Rattle.addresses.specs.Addresses.{isAddressType, longestAddressValue, wellFormed}
-use Rattle.capsule.specs.declared.opening.Role.{Role}
-use Rattle.capsule.specs.declared.opening.Role.the-variants.{Endpoint, Intermediary}
-use Rattle.capsule.specs.declared.opening.Kind.{Kind}
-use Rattle.capsule.specs.declared.opening.Kind.the-variants.{Datagram, Address, Unknown}
-use Rattle.capsule.specs.declared.opening.Opening.{Opening}
-use Rattle.capsule.specs.declared.opening.Report.{Report}
-use Rattle.capsule.specs.declared.opening.Report.the-variants.{Delivered, Dropped, Skipped, Passed, AddressDelivered, Malformed}
+use Rattle.opening.specs.declared.Role.{Role}
+use Rattle.opening.specs.declared.Role.the-variants.{Endpoint, Intermediary}
+use Rattle.opening.specs.declared.Kind.{Kind}
+use Rattle.opening.specs.declared.Kind.the-variants.{Datagram, Address, Unknown}
+use Rattle.opening.specs.declared.Opening.{Opening}
+use Rattle.opening.specs.declared.Report.{Report}
+use Rattle.opening.specs.declared.Report.the-variants.{Delivered, Dropped, Skipped, Passed, AddressDelivered, Malformed}
 use Rattle.capsule.specs.declared.reader.Ended.{Ended}
 use Rattle.capsule.specs.declared.reader.Ended.the-variants as ended
 use Rattle.capsule.specs.Grammar.{Stage, inType, inLength, inValue, Capsule}
-use Rattle.capsule.specs.Kinds.{opted, kindOf, reportBy, reportOf, judged, forwardsBy, forwards, finishes, finishesIn}
+use Rattle.opening.specs.Kinds.{opted, kindOf, reportBy, reportOf, judged, forwardsBy, forwards, finishes}
+use Rattle.capsule.specs.Calls.{finishesIn}
 use Rattle.capsule.specs.Book.{partsFor, onlyIf, fromCapsules, fromTail, fromParts, forwarded, reported}
 use Rattle.capsule.proofs.Planning.{zero-one, no-true}
 use Rattle.capsule_laws.specs.AddressClaims.{IsAddress, IsDatagram}

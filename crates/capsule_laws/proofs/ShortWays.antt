@@ -8,7 +8,7 @@ use Rattle.capsule.specs.declared.reader.FeedAnswer.{FeedAnswer}
 use Rattle.capsule.specs.declared.reader.FeedAnswer.the-variants as fedAs
 use Rattle.capsule.specs.declared.short.Whole.the-variants as wholeAs
 use Rattle.capsule.specs.declared.short.Inside.the-variants as insideAs
-use Rattle.capsule.specs.Kinds.{kindOf}
+use Rattle.opening.specs.Kinds.{kindOf}
 use Rattle.capsule.specs.Calls.{Lent}
 use Rattle.capsule.specs.Reader.{fresh, feedOf}
 use Rattle.capsule.specs.Short.{shortHeader, isPlain, isShort, wholeIn, wholeOf, inValue, insideIn, insideOf}

@@ -2,8 +2,8 @@
 use Rattle.walks.proofs.Words.{_≡_, refl, sym, ap, _∙_, subst, ℕ, Bool, true, false, cond, List, [], _∷_, _++_, append-assoc, append-nil, length, take, take-length}
 use Rattle.refusals.specs.Numbers.{unmakeableState, finished}
 use Rattle.wire.specs.Bytes.{Bytes}
-use Rattle.capsule.specs.declared.opening.Role.{Role}
-use Rattle.capsule.specs.declared.opening.Opening.{Opening}
+use Rattle.opening.specs.declared.Role.{Role}
+use Rattle.opening.specs.declared.Opening.{Opening}
 use Rattle.capsule.specs.declared.reader.Opened.the-variants.{Ready}
 use Rattle.capsule.specs.declared.reader.Reader.{Reader}
 use Rattle.capsule.specs.declared.reader.CloseAnswer.the-variants as closedAs

@@ -4,14 +4,14 @@ use Rattle.wire.specs.Bytes.{Bytes}
 use Rattle.wire.specs.Partial.{heldBytes}
 use Rattle.wire.proofs.Numbers.{bytes-append, bytes-take}
 use Rattle.wire.proofs.Parts.{empty-is}
-use Rattle.capsule.specs.declared.opening.Opening.{Opening}
+use Rattle.opening.specs.declared.Opening.{Opening}
 use Rattle.capsule.specs.declared.plan.Plan.{Plan}
 use Rattle.capsule.specs.declared.reader.Phase.the-variants.{InType}
 use Rattle.capsule.specs.declared.reader.Ended.{Ended}
 use Rattle.capsule.specs.declared.reader.Ended.the-variants.{Nothing, Capsule}
 use Rattle.capsule.specs.Grammar.{Stage, inType, inLength, inValue, Front, part, whole, frontBy, Parts}
 use Rattle.addresses.specs.Addresses.{longestAddressValue}
-use Rattle.capsule.specs.Kinds.{opted, extentOf, forwards, gathers, keeps}
+use Rattle.opening.specs.Kinds.{opted, extentOf, forwards, gathers, keeps}
 use Rattle.capsule.specs.Book.{partsFor, onlyIf, forwarded, Taken, append, reported, endedBy, payloadBy}
 use Rattle.capsule.specs.State.{phaseAt, phaseOf}
 use Rattle.capsule.specs.Reader.{noBytes, planHead, planOf, heldOf, wrote, judgedIn, frontOf}

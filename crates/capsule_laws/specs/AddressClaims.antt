@@ -11,17 +11,17 @@ use lib.Dec.{leb}
 use Rattle.refusals.specs.Numbers.{limitTooLarge, addressesTooShort}
 use Rattle.wire.specs.Bytes.{Bytes}
 use Rattle.addresses.specs.Addresses.{wellFormed}
-use Rattle.capsule.specs.declared.opening.Role.{Role}
-use Rattle.capsule.specs.declared.opening.Role.the-variants.{Endpoint}
-use Rattle.capsule.specs.declared.opening.Kind.the-variants.{Address}
-use Rattle.capsule.specs.declared.opening.Opening.{Opening}
-use Rattle.capsule.specs.declared.opening.Report.the-variants.{AddressDelivered, Malformed}
+use Rattle.opening.specs.declared.Role.{Role}
+use Rattle.opening.specs.declared.Role.the-variants.{Endpoint}
+use Rattle.opening.specs.declared.Kind.the-variants.{Address}
+use Rattle.opening.specs.declared.Opening.{Opening}
+use Rattle.opening.specs.declared.Report.the-variants.{AddressDelivered, Malformed}
 use Rattle.capsule.specs.declared.reader.FeedAnswer.the-variants as fedAs
 use Rattle.capsule.specs.declared.reader.Opened.the-variants as opened
 use Rattle.capsule.specs.declared.reader.Reader.{Reader}
 use Rattle.capsule.specs.declared.reader.Verdict.the-variants.{Accepted}
 use Rattle.capsule.specs.Grammar.{Extent, inType, inLength, inValue, Front, part, whole, frontBy, Capsule}
-use Rattle.capsule.specs.Kinds.{kindOf, extentOf, gathers, keeps}
+use Rattle.opening.specs.Kinds.{kindOf, extentOf, gathers, keeps}
 use Rattle.capsule.specs.Calls.{Lent}
 use Rattle.capsule.specs.Book.{partsFor, reported}
 use Rattle.capsule.specs.State.{readerOf}

@@ -12,13 +12,13 @@ use Rattle.wire.specs.declared.partial.Partial.{Partial}
 use Rattle.wire.specs.declared.partial.Taken.the-variants.{Impossible, More, Ends}
 use Rattle.wire.specs.Varint.{largest}
 use Rattle.wire.specs.Partial.{isPartial, takeVarint}
-use Rattle.capsule.specs.declared.opening.Role.{Role}
-use Rattle.capsule.specs.declared.opening.Role.the-variants.{Endpoint, Intermediary}
-use Rattle.capsule.specs.declared.opening.Kind.{Kind}
-use Rattle.capsule.specs.declared.opening.Kind.the-variants.{Datagram, Address, Unknown}
-use Rattle.capsule.specs.declared.opening.Opening.{Opening}
-use Rattle.capsule.specs.declared.opening.Report.{Report}
-use Rattle.capsule.specs.declared.opening.Report.the-variants.{Delivered, Dropped, Skipped, Passed, AddressDelivered, Malformed}
+use Rattle.opening.specs.declared.Role.{Role}
+use Rattle.opening.specs.declared.Role.the-variants.{Endpoint, Intermediary}
+use Rattle.opening.specs.declared.Kind.{Kind}
+use Rattle.opening.specs.declared.Kind.the-variants.{Datagram, Address, Unknown}
+use Rattle.opening.specs.declared.Opening.{Opening}
+use Rattle.opening.specs.declared.Report.{Report}
+use Rattle.opening.specs.declared.Report.the-variants.{Delivered, Dropped, Skipped, Passed, AddressDelivered, Malformed}
 use Rattle.capsule.specs.declared.plan.Plan.{Plan}
 use Rattle.capsule.specs.declared.reader.Phase.{Phase}
 use Rattle.capsule.specs.declared.reader.Phase.the-variants.{InType, InLength, InValue}

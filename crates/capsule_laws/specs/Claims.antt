@@ -9,10 +9,10 @@ use lib.ListN.{length, take, drop}
 use Rattle.refusals.specs.declared.Refusal.{Refusal}
 use Rattle.refusals.specs.Numbers.{unmakeableState, finished}
 use Rattle.wire.specs.Bytes.{Bytes}
-use Rattle.capsule.specs.declared.opening.Role.{Role}
-use Rattle.capsule.specs.declared.opening.Opening.{Opening}
-use Rattle.capsule.specs.declared.opening.Report.{Report}
-use Rattle.capsule.specs.declared.opening.Report.the-variants as report
+use Rattle.opening.specs.declared.Role.{Role}
+use Rattle.opening.specs.declared.Opening.{Opening}
+use Rattle.opening.specs.declared.Report.{Report}
+use Rattle.opening.specs.declared.Report.the-variants as report
 use Rattle.capsule.specs.declared.reader.Reader.{Reader}
 use Rattle.capsule.specs.declared.reader.Opened.the-variants.{Ready}
 use Rattle.capsule.specs.declared.reader.Ended.{Ended}
@@ -23,8 +23,8 @@ use Rattle.capsule.specs.declared.short.Inside.the-variants as insideAs
 use Rattle.capsule.specs.declared.reader.Verdict.{Verdict}
 use Rattle.capsule.specs.declared.reader.Verdict.the-variants.{Accepted, Refused}
 use Rattle.capsule.specs.Grammar.{Extent, Stage, inType, inLength, inValue, part, whole, frontBy, Capsule, partsBy, parts}
-use Rattle.capsule.specs.Kinds.{opted, extentOf, finishes, finishesIn, gathers, keeps}
-use Rattle.capsule.specs.Calls.{Lent, lent, Call, feed, close, Reply, refused, fed, closed, run}
+use Rattle.opening.specs.Kinds.{opted, extentOf, finishes, gathers, keeps}
+use Rattle.capsule.specs.Calls.{Lent, lent, Call, feed, close, Reply, refused, fed, closed, run, finishesIn}
 use Rattle.capsule.specs.Book.{partsFor, forwarded, reported, Book, newBook, bookVerdict, bookCall}
 use Rattle.capsule.specs.State.{readerOf, ofBook}
 use Rattle.capsule.specs.Reader.{opening, fresh, openOf, isMakeable, feeding, feedOf, closeOf, readerCall}

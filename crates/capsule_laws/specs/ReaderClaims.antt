@@ -1,7 +1,7 @@
 -- What holds of every reader, whatever its role, limit, draft setting and opting in (document 01, "Capsule streams"). Each claim is proved in the file
 -- given, under its name in lower case with dashes.
 use mathlib.Core.Path.{_≡_}
-use mathlib.Core.Logic.{_↔_}
+use mathlib.Core.Logic.{_↔_, _⊎_}
 use Prim.Native.Nat.{ℕ, _≤_, _<_}
 use mathlib.Core.Bool.{Bool, true, false}
 use mathlib.Core.Option.{none, some}
@@ -10,12 +10,12 @@ use lib.ListN.{length, take, drop}
 use Rattle.refusals.specs.declared.Refusal.{Refusal}
 use Rattle.refusals.specs.Numbers.{unmakeableState}
 use Rattle.wire.specs.Bytes.{Bytes}
-use Rattle.capsule.specs.declared.opening.Role.{Role}
-use Rattle.capsule.specs.declared.opening.Role.the-variants.{Endpoint, Intermediary}
-use Rattle.capsule.specs.declared.opening.Kind.the-variants as kind
-use Rattle.capsule.specs.declared.opening.Opening.{Opening}
-use Rattle.capsule.specs.declared.opening.Report.{Report}
-use Rattle.capsule.specs.declared.opening.Report.the-variants.{Delivered, Dropped, Skipped, Passed, AddressDelivered, Malformed}
+use Rattle.opening.specs.declared.Role.{Role}
+use Rattle.opening.specs.declared.Role.the-variants.{Endpoint, Intermediary}
+use Rattle.opening.specs.declared.Kind.the-variants as kind
+use Rattle.opening.specs.declared.Opening.{Opening}
+use Rattle.opening.specs.declared.Report.{Report}
+use Rattle.opening.specs.declared.Report.the-variants.{Delivered, Dropped, Skipped, Passed, AddressDelivered, Malformed}
 use Rattle.capsule.specs.declared.reader.Ended.{Ended}
 use Rattle.capsule.specs.declared.reader.Ended.the-variants as ended
 use Rattle.capsule.specs.declared.reader.FeedAnswer.the-variants as fedAs
@@ -24,12 +24,12 @@ use Rattle.capsule.specs.declared.reader.Opened.the-variants as opened
 use Rattle.capsule.specs.declared.reader.Reader.{Reader}
 use Rattle.capsule.specs.declared.reader.Verdict.the-variants.{Accepted}
 use Rattle.capsule.specs.Grammar.{Stage, inType, inLength, inValue, Capsule}
-use Rattle.capsule.specs.Kinds.{kindOf, finishes, finishesIn}
-use Rattle.capsule.specs.Calls.{Lent, Call, feed, run}
+use Rattle.opening.specs.Kinds.{kindOf, finishes}
+use Rattle.capsule.specs.Calls.{Lent, Call, feed, close, fed, closed, run, finishesIn}
 use Rattle.capsule.specs.Book.{partsFor, reported, forwarded, Book, newBook, bookVerdict, bookCall, Taken, append, endOf}
 use Rattle.capsule.specs.State.{readerOf, ofBook}
 use Rattle.capsule.specs.Reader.{opening, openOf, isOpening, feedOf, closeOf, readerCall, lengthOf}
-use Rattle.capsule_laws.specs.Claims.{AllBytes, NoneIs, HandedOn, LentWell, Stands}
+use Rattle.capsule_laws.specs.Claims.{AllBytes, consumedIn, NoneIs, HandedOn, LentWell, Stands}
 use Rattle.capsule_laws.specs.AddressClaims.{IsAddress, IsDatagram}
 
 -- ---- opening and closing (proofs/Arising.antt)
@@ -132,6 +132,31 @@ ConsumedExactly = (op : Opening) (s p : List ℕ) → Consumes op s p (append op
 -- clean exactly if the tail is empty
 abbrev pub EndExactly : Type 0
 EndExactly = (tail : List ℕ) → ((endOf tail ≡ closedAs.Clean) ↔ (tail ≡ [])) × ((endOf tail ≡ closedAs.Truncated) ↔ (tail ≡ [] → ⊥))
+
+-- so of the book's own calls, and by `Demand3` of the reader's: a feeding that was accepted consumed all of the piece, and no capsule ended in it; or up to and
+-- including the byte that ends the first one, which is the one that is reported
+abbrev pub UpTo : Opening → List ℕ → List ℕ → ℕ → Ended → Type 0
+UpTo op s p consumed e =
+    ((e ≡ ended.Nothing) × (consumed ≡ length p) × (partsFor op (s ++ p) .capsules ≡ partsFor op s .capsules))
+    ⊎ ((c : Capsule) × (e ≡ ended.Capsule (reported op c)) × (consumed ≤ length p)
+    × (partsFor op (s ++ take consumed p) ≡ record { capsules = partsFor op s .capsules ++ (c ∷ []); tail = []; stage = inType }))
+
+abbrev pub FedExactly : Type 0
+FedExactly =
+    (k : Book) (p : List ℕ) (b : Lent) (consumed written : ℕ) (w : List ℕ) (e : Ended) (payload : List ℕ)
+    → bookCall k (feed p b) .1 ≡ fed consumed written w e payload
+    → UpTo (k .opening) (k .stream) p consumed e
+
+-- its stream is the consumed bytes joined
+abbrev pub StreamConsumed : Type 0
+StreamConsumed = (op : Opening) (cs : List Call) → run bookCall (newBook op) cs .0 .stream ≡ consumedIn cs (run bookCall (newBook op) cs .1)
+
+-- and a close that is not refused answers clean exactly if the tail is empty, however long the stream is
+abbrev pub ClosesExactly : Type 0
+ClosesExactly =
+    (k : Book) → k .mark ≡ false
+    → let tail = partsFor (k .opening) (k .stream) .tail in
+    (tail ≡ [] → bookCall k close .1 ≡ closed closedAs.Clean) × ((tail ≡ [] → ⊥) → bookCall k close .1 ≡ closed closedAs.Truncated)
 
 -- the length that a report tells
 abbrev pub LengthTold : Type 0

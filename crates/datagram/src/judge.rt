@@ -4,7 +4,7 @@ ghost use Prim.Native.Nat.{_-_};
 ghost use Rattle.wire.specs.Varint.{readVarint};
 ghost use Rattle.datagram.specs.Judging.{judgedRecord, judgedEntry, ifWithin, Judges, isDelivered, ifDelivered, afterQuarter, payloadOf};
 ghost use Rattle.datagram.specs.Code.{askedIn, judgedBy, payloadBy};
-use capsule::opening::Opening;
+use opening::Opening;
 use refusals::Refusal;
 use streams::record::StreamRecord;
 use streams::table::Entry;

@@ -2,7 +2,7 @@
 use Rattle.walks.proofs.Words.{_≡_, refl, ap, _↔_, _⊎_, inl, inr, ⊎-elim, Iff·trans, Iff·and, Iff·rfl, Bool, true, false, cond, _||_, _&&_, Option, none, some, ℕ, _+_, _≤_, _<_, arith, leb, ltb, eqb, leb-true, le-leb, ltb-true, ltb-false, lt-ltb, le-ltb, eqb-true, eq-eqb}
 use Rattle.wire.proofs.Parts.{both, parted}
 use Rattle.capsule.proofs.Planning.{zero-one, no-true}
-use Rattle.capsule.specs.declared.opening.Report.the-variants as report
+use Rattle.opening.specs.declared.Report.the-variants as report
 use Rattle.capsule.specs.declared.reader.CloseAnswer.the-variants as close
 use Rattle.datagram.specs.declared.judge.Judged.the-variants as judged
 use Rattle.datagram.specs.Judging.{ruleOf}

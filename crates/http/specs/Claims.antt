@@ -7,8 +7,8 @@ use mathlib.Core.Bool.{Bool, true}
 use mathlib.Core.Option.{some}
 use mathlib.Core.List.{List, _∷_, _++_}
 use lib.ListN.{replicate}
-use Rattle.capsule.specs.declared.opening.Report.{Report}
-use Rattle.capsule.specs.declared.opening.Report.the-variants as report
+use Rattle.opening.specs.declared.Report.{Report}
+use Rattle.opening.specs.declared.Report.the-variants as report
 use Rattle.capsule.specs.declared.reader.CloseAnswer.{CloseAnswer}
 use Rattle.capsule.specs.declared.reader.CloseAnswer.the-variants as close
 use Rattle.datagram.specs.declared.judge.Judged.{Judged}

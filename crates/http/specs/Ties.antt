@@ -1,6 +1,6 @@
 -- Which error an answer is (document 01: the names of the errors, of the closing answers and of the rules). No other answer is one.
-use Rattle.capsule.specs.declared.opening.Report.{Report}
-use Rattle.capsule.specs.declared.opening.Report.the-variants as report
+use Rattle.opening.specs.declared.Report.{Report}
+use Rattle.opening.specs.declared.Report.the-variants as report
 use Rattle.capsule.specs.declared.reader.CloseAnswer.{CloseAnswer}
 use Rattle.capsule.specs.declared.reader.CloseAnswer.the-variants as close
 use Rattle.datagram.specs.declared.judge.Judged.{Judged}

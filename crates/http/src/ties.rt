@@ -3,9 +3,9 @@ ghost use mathlib.Core.Path.{_≡_};
 ghost use Rattle.http.specs.Ties.{closeError, reportError, judgedError};
 use crate::errors::ErrorOf;
 use crate::errors::HttpError;
-use capsule::opening::Report;
 use capsule::reader::CloseAnswer;
 use datagram::judge::Judged;
+use opening::Report;
 
 // A clean close that finds a capsule unfinished is error 1.
 pub fn close_error(answer: CloseAnswer) -> ErrorOf

@@ -1,6 +1,6 @@
 -- No two lines are alike: each is read back. Assumes nothing.
 use Rattle.walks.proofs.Words.{_≡_, refl, sym, ap, _∙_, ℕ, _<_, cond, List, [], _∷_, _++_, append-assoc, arith, lt-ltb, le-ltb, drop, getD, ltb, eqb}
-use Rattle.capsule.specs.declared.opening.Report.the-variants.{Delivered, Dropped, Skipped, Passed, AddressDelivered, Malformed}
+use Rattle.opening.specs.declared.Report.the-variants.{Delivered, Dropped, Skipped, Passed, AddressDelivered, Malformed}
 use Rattle.capsule.specs.declared.reader.CloseAnswer.the-variants.{Refused, Clean, Truncated}
 use Rattle.lines.specs.Text.{text}
 use Rattle.lines.specs.Decimal.{decimal, value}

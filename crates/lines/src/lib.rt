@@ -10,8 +10,8 @@ ghost use Rattle.lines.specs.Writing.{writing, writeAt};
 use crate::writing::write_one;
 use crate::writing::write_text;
 use crate::writing::write_two;
-use capsule::opening::Report;
 use capsule::reader::CloseAnswer;
+use opening::Report;
 
 // What became of a line.
 pub enum Line {

@@ -10,9 +10,9 @@ use Rattle.capsule.specs.declared.reader.Verdict.the-variants.{Accepted, Refuse
 use Rattle.wire.specs.Bytes.{Bytes}
 use Rattle.wire.specs.Partial.{isPartial, starts}
 use Rattle.wire.proofs.Numbers.{bytes-take, bytes-drop}
-use Rattle.capsule.specs.Kinds.{optedBy, opted}
+use Rattle.opening.specs.Kinds.{optedBy, opted}
 use Rattle.capsule.specs.Calls.{Lent, lentVerdict}
-use Rattle.capsule.specs.declared.opening.Role.the-variants.{Endpoint}
+use Rattle.opening.specs.declared.Role.the-variants.{Endpoint}
 use Rattle.capsule.specs.declared.reader.Opened.the-variants as opened
 use Rattle.capsule.specs.Reader.{opening, fresh, isOpening, openOf, isMakeablePhase, isMakeable, verdictOf, planOf, Feeding, feeding, fedBy, takeOf, feedOf}
 use Rattle.capsule.proofs.Planning.{zero-one, plan-fits}

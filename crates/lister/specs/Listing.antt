@@ -5,7 +5,7 @@ use mathlib.Core.Bool.{Bool, true, false}
 use mathlib.Core.List.{List, [], _++_}
 use lib.ListN.{length, take, drop}
 use lib.Seq.{sets}
-use Rattle.capsule.specs.declared.opening.Role.the-variants.{Endpoint}
+use Rattle.opening.specs.declared.Role.the-variants.{Endpoint}
 use Rattle.capsule.specs.declared.reader.Reader.{Reader}
 use Rattle.capsule.specs.declared.reader.Ended.{Ended}
 use Rattle.capsule.specs.declared.reader.Ended.the-variants.{Nothing, Capsule}

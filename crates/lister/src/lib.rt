@@ -6,7 +6,6 @@ ghost use lib.ListN.{length};
 ghost use Rattle.capsule.specs.Calls.{lent};
 ghost use Rattle.lines.specs.Lines.{endLine, longest};
 ghost use Rattle.lister.specs.Listing.{listingOf, Grows, grown, lineIn, Noted, Ready, Read, Within, Listed};
-use capsule::opening::Role;
 use capsule::reader::CloseAnswer;
 use capsule::reader::Ended;
 use capsule::reader::FeedAnswer;
@@ -17,6 +16,7 @@ use libc::STDIN_FILENO;
 use libc::STDOUT_FILENO;
 use lines::LONGEST;
 use lines::Line;
+use opening::Role;
 
 // The longest DATAGRAM that is delivered.
 const LIMIT: u64 = 1200;

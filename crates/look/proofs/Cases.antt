@@ -5,7 +5,7 @@ use Rattle.wire.specs.Varint.{largest, sizeOf, valueOf, readVarint}
 use Rattle.wire.specs.Partial.{partialOf, starts, isPartial}
 use Rattle.addresses.specs.Addresses.{isAddressType, longestAddressValue}
 use Rattle.capsule.specs.Grammar.{frontBy, capsuleAt, cutBy, partsBy}
-use Rattle.capsule.specs.Kinds.{optedBy, opted, kindOf, extentBy, extentOf, gathersBy, gathers, keepsBy, keeps}
+use Rattle.opening.specs.Kinds.{optedBy, opted, kindOf, extentBy, extentOf, gathersBy, gathers, keepsBy, keeps}
 use Rattle.capsule.specs.Book.{partsFor}
 use Rattle.capsule.specs.State.{phaseAt, phaseOf, readerOf}
 use Rattle.capsule.specs.Reader.{isOpening, isMakeablePhase, isMakeable}

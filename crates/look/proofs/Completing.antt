@@ -4,10 +4,10 @@ use Rattle.refusals.specs.Numbers.{unmakeableState}
 use Rattle.wire.specs.declared.varint.Varint.the-variants.{Whole}
 use Rattle.wire.specs.Varint.{readVarint}
 use Rattle.wire.specs.Partial.{partialOf}
-use Rattle.capsule.specs.declared.opening.Opening.{Opening}
+use Rattle.opening.specs.declared.Opening.{Opening}
 use Rattle.capsule.specs.declared.reader.Reader.{Reader}
 use Rattle.capsule.specs.Grammar.{Stage, inValue, part, Parts}
-use Rattle.capsule.specs.Kinds.{extentOf}
+use Rattle.opening.specs.Kinds.{extentOf}
 use Rattle.capsule.specs.Book.{partsFor}
 use Rattle.capsule.specs.State.{phaseAt, phaseOf, readerOf}
 use Rattle.capsule.specs.Reader.{isMakeable}

@@ -2,8 +2,8 @@
 use Rattle.walks.proofs.Words.{_≡_, refl, sym, ap, _∙_, _↔_, ℕ, _≤_, arith, Bool, true, false, cond}
 use mathlib.Core.Logic.{inl, inr}
 use Rattle.refusals.specs.Numbers.{unmakeableState}
-use Rattle.capsule.specs.declared.opening.Opening.{Opening}
-use Rattle.capsule.specs.Kinds.{gathers, keeps}
+use Rattle.opening.specs.declared.Opening.{Opening}
+use Rattle.opening.specs.Kinds.{gathers, keeps}
 use Rattle.capsule.specs.Reader.{isMakeable}
 use Rattle.capsule.proofs.Planning.{zero-one, no-true}
 use Rattle.capsule_laws.specs.Claims.{Makes}

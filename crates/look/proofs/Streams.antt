@@ -6,11 +6,11 @@ use Rattle.wire.specs.Partial.{partialOf}
 use Rattle.wire.proofs.Reading.{no-whole-nil}
 use Rattle.wire.proofs.Parts.{both}
 use Rattle.addresses.specs.Addresses.{longestAddressValue}
-use Rattle.capsule.specs.declared.opening.Opening.{Opening}
-use Rattle.capsule.specs.declared.opening.Kind.{Kind}
-use Rattle.capsule.specs.declared.opening.Kind.the-variants.{Datagram, Address, Unknown}
+use Rattle.opening.specs.declared.Opening.{Opening}
+use Rattle.opening.specs.declared.Kind.{Kind}
+use Rattle.opening.specs.declared.Kind.the-variants.{Datagram, Address, Unknown}
 use Rattle.capsule.specs.Grammar.{Stage, inLength, inValue, part}
-use Rattle.capsule.specs.Kinds.{kindOf, extentBy, extentOf}
+use Rattle.opening.specs.Kinds.{kindOf, extentBy, extentOf}
 use Rattle.capsule.specs.Book.{partsFor}
 use Rattle.capsule.specs.State.{phaseAt, phaseOf, readerOf}
 use Rattle.capsule.specs.Reader.{isMakeable}

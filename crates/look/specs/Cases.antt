@@ -6,8 +6,8 @@ use mathlib.Core.List.{List, [], _∷_}
 use lib.ListN.{replicate}
 use Rattle.refusals.specs.Numbers.{refusal}
 use Rattle.wire.specs.Partial.{partial}
-use Rattle.capsule.specs.declared.opening.Role.the-variants.{Endpoint, Intermediary}
-use Rattle.capsule.specs.declared.opening.Opening.{Opening}
+use Rattle.opening.specs.declared.Role.the-variants.{Endpoint, Intermediary}
+use Rattle.opening.specs.declared.Opening.{Opening}
 use Rattle.capsule.specs.declared.reader.Phase.{Phase}
 use Rattle.capsule.specs.declared.reader.Phase.the-variants as phase
 use Rattle.capsule.specs.State.{readerOf}

@@ -3,11 +3,11 @@ use Prim.Native.Nat.{ℕ, _-_}
 use mathlib.Core.Bool.{cond}
 use lib.Dec.{eqb}
 use Rattle.refusals.specs.Numbers.{unmakeableState}
-use Rattle.capsule.specs.declared.opening.Opening.{Opening}
+use Rattle.opening.specs.declared.Opening.{Opening}
 use Rattle.capsule.specs.declared.reader.Phase.{Phase}
 use Rattle.capsule.specs.declared.reader.Phase.the-variants as phase
 use Rattle.capsule.specs.declared.reader.Reader.{Reader}
-use Rattle.capsule.specs.Kinds.{extentOf, gathers, keeps}
+use Rattle.opening.specs.Kinds.{extentOf, gathers, keeps}
 use Rattle.capsule.specs.Reader.{isMakeable}
 use Rattle.look.specs.declared.Buffer.{Buffer}
 use Rattle.look.specs.declared.Buffer.the-variants.{Neither, Gathering, Addresses}

@@ -3,9 +3,9 @@ ghost use mathlib.Core.Path.{_≡_};
 ghost use mathlib.Core.Bool.{true};
 ghost use Rattle.capsule.specs.Reader.{isMakeablePhase};
 ghost use Rattle.look.specs.Looking.{bufferOf, storedIn, placeOf, lookOf};
-use capsule::opening::Opening;
 use capsule::reader::Phase;
 use capsule::reader::Reader;
+use opening::Opening;
 use refusals::Refusal;
 
 // Which lent buffer the bytes of a value are stored in.

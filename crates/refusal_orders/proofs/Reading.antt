@@ -9,8 +9,8 @@ use Rattle.wire.specs.Varint.{largest}
 use Rattle.wire.specs.Writing.{Writing, refuses, writeAt, writeVarint}
 use Rattle.wire.proofs.Reading.{split}
 use Rattle.addresses.specs.Addresses.{longestAddressValue}
-use Rattle.capsule.specs.declared.opening.Role.{Role}
-use Rattle.capsule.specs.declared.opening.Role.the-variants.{Endpoint, Intermediary}
+use Rattle.opening.specs.declared.Role.{Role}
+use Rattle.opening.specs.declared.Role.the-variants.{Endpoint, Intermediary}
 use Rattle.capsule.specs.declared.reader.Opened.the-variants as opened
 use Rattle.capsule.specs.declared.reader.FeedAnswer.the-variants as fedAs
 use Rattle.capsule.specs.declared.reader.Phase.{Phase}
@@ -20,7 +20,7 @@ use Rattle.capsule.specs.declared.reader.Closed.{Closed}
 use Rattle.capsule.specs.declared.reader.Reader.{Reader}
 use Rattle.capsule.specs.declared.reader.Verdict.{Verdict}
 use Rattle.capsule.specs.declared.reader.Verdict.the-variants.{Accepted, Refused}
-use Rattle.capsule.specs.Kinds.{optedBy, opted}
+use Rattle.opening.specs.Kinds.{optedBy, opted}
 use Rattle.capsule.specs.Calls.{Lent, outputVerdict, addressesVerdict, lentVerdict}
 use Rattle.capsule.specs.Reader.{isOpening, openOf, isMakeable, verdictOf, fedBy, takeOf, feedBy, feedOf, endAt, closeOf}
 use Rattle.capsule.proofs.Planning.{zero-one, no-true}

@@ -10,7 +10,7 @@ use Rattle.wire.specs.declared.units.StreamId.{StreamId}
 use Rattle.wire.specs.declared.varint.Written.the-variants as written
 use Rattle.wire.specs.Varint.{encode}
 use Rattle.wire.specs.Writing.{Writing, writeVarint}
-use Rattle.capsule.specs.declared.opening.Role.{Role}
+use Rattle.opening.specs.declared.Role.{Role}
 use Rattle.capsule.specs.declared.reader.Opened.the-variants as opened
 use Rattle.capsule.specs.declared.reader.FeedAnswer.the-variants as fedAs
 use Rattle.capsule.specs.declared.reader.CloseAnswer.the-variants as closedAs

@@ -8,7 +8,7 @@ use Rattle.refusals.specs.First.{Order}
 use Rattle.wire.specs.declared.units.StreamId.{StreamId}
 use Rattle.wire.specs.Units.{IsRequestStream}
 use Rattle.wire.specs.Varint.{encode}
-use Rattle.capsule.specs.declared.opening.Role.the-variants.{Endpoint, Intermediary}
+use Rattle.opening.specs.declared.Role.the-variants.{Endpoint, Intermediary}
 use Rattle.capsule.specs.declared.reader.Reader.{Reader}
 use Rattle.capsule.specs.Calls.{Lent}
 use Rattle.capsule_laws.specs.Claims.{Makes}

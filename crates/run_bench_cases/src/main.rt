@@ -1,8 +1,8 @@
 // Runs the starred bench cases on streams through the reader.
-use capsule::opening::Role;
 use capsule::reader::Fed;
 use capsule::reader::Opened;
 use capsule::reader::Reader;
+use opening::Role;
 use show::word;
 use show_reader::consumed;
 use show_reader::ending;

@@ -1,5 +1,4 @@
 // Reads two streams in place, each cut in two at every byte: each cut gives the same reports.
-use capsule::opening::Role;
 use capsule::reader::Fed;
 use capsule::reader::Opened;
 use capsule::reader::Reader;
@@ -8,6 +7,7 @@ use host::reader::close_by_value;
 use host::reader::close_connection_by_value;
 use host::reader::feed_by_value;
 use host::reader::feed_connection_by_value;
+use opening::Role;
 use show::number;
 use show::word;
 use show_reader::consumed;

@@ -1,10 +1,10 @@
 // What a reader answers, in words on standard output, for programs that are held to what they print.
 ghost use mathlib.Core.Path.{_≡_};
 ghost use Rattle.show_reader.specs.Consumed.{consumedIn};
-use capsule::opening::Report;
 use capsule::reader::CloseAnswer;
 use capsule::reader::Ended;
 use capsule::reader::FeedAnswer;
+use opening::Report;
 use refusals::Refusal;
 use show::first;
 use show::number;

@@ -1,5 +1,5 @@
 use Rattle.walks.proofs.Words.{ap, _∙_, needs}
-use Rattle.capi.specs.Numbers.{bitOf}
+use Rattle.crossing.specs.Numbers.{bitOf}
 use Rattle.capi.proofs.address_capsules.mrz_address_value_good.Statement.{statement}
 use Rattle.capi.proofs.address_capsules.mrz_address_value_good.Tie as tie
 

@@ -13,14 +13,14 @@ use Rattle.datagram.proofs.judge.judge.Symbol as judge-def
 use Rattle.datagram.proofs.judge.judge.Symbol.{name as #judge}
 use Rattle.datagram.proofs.judge.judge.Met as judge-thm
 use Rattle.datagram.proofs.Framing.{framed}
-use Rattle.capi.specs.Frames.{judgedAnswer}
+use Rattle.crossing.specs.Frames.{judgedAnswer}
 use Rattle.capi.proofs.frames.Limits as L
 use Rattle.capi.proofs.frames.Limits.Laws as L′
-use Rattle.capi.proofs.frames.JudgedAnswer as Z
-use Rattle.capi.proofs.frames.JudgedAnswer.Laws as Z′
-use Rattle.capi.proofs.frames.judged_answer.Symbol as say-def
-use Rattle.capi.proofs.frames.judged_answer.Symbol.{name as #say}
-use Rattle.capi.proofs.frames.judged_answer.Met as say-thm
+use Rattle.crossing.proofs.frames.JudgedAnswer as Z
+use Rattle.crossing.proofs.frames.JudgedAnswer.Laws as Z′
+use Rattle.crossing.proofs.frames.judged_answer.Symbol as say-def
+use Rattle.crossing.proofs.frames.judged_answer.Symbol.{name as #say}
+use Rattle.crossing.proofs.frames.judged_answer.Met as say-thm
 use Rattle.capi.proofs.frames.mrz_judge.Key.{name as #f}
 use Rattle.capi.proofs.frames.mrz_judge.Statement as stated
 use Rattle.capi.proofs.frames.mrz_judge.Code as code
@@ -62,7 +62,7 @@ mrz-judge-spec 𝓤 H 𝓜 𝓖 𝓡 = meets-passing given (plain (λ _. Z.the-r
     land ! (from ! (stop !)) (init ! 3 refl (EL.lawful J.the-type J′.the-laws 𝓤 H A W tt .typed j _ j-is .0)) $
     recast W (‵ (flft (κs .0) (qs .0)) ⊛ raw (toks 𝓤 A 1 (κs .1) (qs .1))) refl $ split ! $ nothing ! $ move ! (4 ∷ 0 ∷ []) $ fjoin ! $
     -- [the frame; the rows' token; the frame's token; what is left; the locals]
-    move ! (2 ∷ 0 ∷ 12 ∷ 13 ∷ []) $ takes-last J.the-row 1 (slots (bytes 0 tt ∷ [])) (plain (λ _. Z.the-row)) Said ! fm (cited 𝓤 H _ 𝓜 𝓡 code.env #say say-def.routine code.calls-capi·frames·judged-answer (say-thm.met 𝓤 H 𝓜 𝓖 𝓡)) (EL.makes J.the-type J′.the-plain 𝓤 H A)
+    move ! (2 ∷ 0 ∷ 12 ∷ 13 ∷ []) $ takes-last J.the-row 1 (slots (bytes 0 tt ∷ [])) (plain (λ _. Z.the-row)) Said ! fm (cited 𝓤 H _ 𝓜 𝓡 code.env #say say-def.routine code.calls-crossing·frames·judged-answer (say-thm.met 𝓤 H 𝓜 𝓖 𝓡)) (EL.makes J.the-type J′.the-plain 𝓤 H A)
     (κs .1) (qs .1) j v (frame, tt) (slice-vals frame, tt) refl j-is (λ z u z-is. LL.lawful Z.the-type Z′.the-laws 𝓤 H A W .typed z _ z-is .0) (and-then ! (load ! (from ! (stop !)) (look ! 5 refl)) (and-then ! (load ! (from ! (stop !)) (look ! 7 refl)) (no-more !))) (λ u z _ e′.
     move ! (11 ∷ 12 ∷ 9 ∷ 10 ∷ 7 ∷ 8 ∷ 5 ∷ 6 ∷ []) $ clears ! $ clears ! $ clears ! $ clears ! $ free0 ! $
     -- [the frame's token; …; the answer; the rows' token]

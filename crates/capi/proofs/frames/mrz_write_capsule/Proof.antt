@@ -9,11 +9,12 @@ use Rattle.datagram.specs.Sending.{writeCapsule}
 use Rattle.datagram.proofs.write.write_capsule.Symbol as write-def
 use Rattle.datagram.proofs.write.write_capsule.Symbol.{name as #write}
 use Rattle.datagram.proofs.write.write_capsule.Met as write-thm
-use Rattle.capi.specs.Varint.{writtenAnswer, wrote, wroteBy}
+use Rattle.crossing.specs.Varint.{writtenAnswer}
+use Rattle.capi.specs.Varint.{wrote, wroteBy}
 use Rattle.capi.specs.Table.{streamId}
-use Rattle.capi.proofs.varint.written_answer.Symbol as say-def
-use Rattle.capi.proofs.varint.written_answer.Symbol.{name as #say}
-use Rattle.capi.proofs.varint.written_answer.Met as say-thm
+use Rattle.crossing.proofs.varint.written_answer.Symbol as say-def
+use Rattle.crossing.proofs.varint.written_answer.Symbol.{name as #say}
+use Rattle.crossing.proofs.varint.written_answer.Met as say-thm
 use Rattle.capi.proofs.frames.mrz_write_capsule.Key.{name as #f}
 use Rattle.capi.proofs.frames.mrz_write_capsule.Statement as stated
 use Rattle.capi.proofs.frames.mrz_write_capsule.Code as code
@@ -46,7 +47,7 @@ mrz-write-capsule-spec 𝓤 H 𝓜 𝓖 𝓡 = meets-passing given (plain (λ _.
     move ! (18 ∷ 8 ∷ 14 ∷ 6 ∷ 4 ∷ 12 ∷ 2 ∷ []) $ readies ! id (out .ptr) (length (now out)) at id-is (fit .1 .1 .1 .0) (fit .1 .1 .1 .1 .0) refl refl refl refl refl refl refl $
     -- [_2; _7; _4; _8; _9; _5; _10; what is passed; the tokens; the rest of _10 to _7; _6 at 13; the rest of _5 and _4; _3 at 17; the rest of _2; _1 at 20; _0 at 22]
     move ! (8 ∷ 7 ∷ 13 ∷ 22 ∷ 23 ∷ []) $ answers 3 (slots beside) written written-answer Writes (λ y z. z ≡ writtenAnswer y) ! fm (cited 𝓤 H _ 𝓜 𝓡 code.env #write write-def.routine code.calls-datagram·write·write-capsule (write-thm.met 𝓤 H 𝓜 𝓖 𝓡))
-    (cited 𝓤 H _ 𝓜 𝓡 code.env #say say-def.routine code.calls-capi·varint·written-answer (say-thm.met 𝓤 H 𝓜 𝓖 𝓡)) κs qs (passed κs a) (values κs beside (passed κs a)) refl refl
+    (cited 𝓤 H _ 𝓜 𝓡 code.env #say say-def.routine code.calls-crossing·varint·written-answer (say-thm.met 𝓤 H 𝓜 𝓖 𝓡)) κs qs (passed κs a) (values κs beside (passed κs a)) refl refl
     (and-then ! (load ! (from ! (stop !)) (look ! 21 refl)) (and-then ! (load ! (from ! (stop !)) (look ! 5 refl)) (and-then ! (load ! (from ! (stop !)) (look ! 18 refl)) (and-then ! (load ! (from ! (stop !)) (look ! 8 refl)) (and-then ! (load ! (from ! (stop !)) (look ! 10 refl)) (no-more !)))))) (λ _ v y z ws e said.
     move ! (21 ∷ 22 ∷ 4 ∷ 20 ∷ 18 ∷ 19 ∷ 6 ∷ 17 ∷ 9 ∷ 16 ∷ 3 ∷ 15 ∷ 5 ∷ 14 ∷ 7 ∷ 13 ∷ 8 ∷ 12 ∷ 10 ∷ 11 ∷ []) $ clears ! $ clears ! $ clears ! $ clears ! $ clears ! $ clears ! $ clears ! $ clears ! $ clears ! $ clears ! $ free0 ! $
     ends-owning given (plain (λ _. written-answer .type)) Claimed 𝓤 H (𝓖 .A) (givenOf 𝓤 H 𝓜 𝓖) κs qs a ! v z (ws .0, (tt, ws .1 .1)) refl (said-written y z _ _ e said)))))))))))))))

@@ -1,5 +1,5 @@
 use Rattle.walks.proofs.Words.{ap, _∙_, needs}
-use Rattle.capi.specs.Numbers.{bitOf}
+use Rattle.crossing.specs.Numbers.{bitOf}
 use Rattle.capi.proofs.messages.mrz_field_in_use.Statement.{statement}
 use Rattle.capi.proofs.messages.mrz_field_in_use.Tie as tie
 

@@ -1,5 +1,6 @@
 use Rattle.walks.proofs.Words.{refl, needs}
-use Rattle.capi.proofs.ShortWords.{between-reads, within-reads, tried-nothing}
+use Rattle.crossing.proofs.Standing.{between-reads, within-reads}
+use Rattle.capi.proofs.ShortWords.{tried-nothing}
 use Rattle.capi.proofs.reader.try_short.Statement.{statement}
 use Rattle.capi.proofs.reader.try_short.Tie as tie
 

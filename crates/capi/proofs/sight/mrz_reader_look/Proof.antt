@@ -1,6 +1,7 @@
 -- What was read is looked at.
 use Rattle.walks.proofs.Words.{sym, ap, _∙_, needs}
-use Rattle.capi.specs.Sight.{lookedAnswer, lookWords}
+use Rattle.crossing.specs.Sight.{lookedAnswer}
+use Rattle.capi.specs.Sight.{lookWords}
 use Rattle.capi.proofs.sight.mrz_reader_look.Statement.{statement}
 use Rattle.capi.proofs.sight.mrz_reader_look.Tie as tie
 

@@ -13,12 +13,13 @@ use Rattle.streams.proofs.table.find_stream.Symbol.{name as #find}
 use Rattle.streams.proofs.table.find_stream.Met as find-thm
 use Rattle.walks.proofs.Calling.{Fact}
 use Rattle.walks.proofs.Passing.{Param, word, slots, values, passing, clears, ends-owning, meets-passing}
-use Rattle.capi.specs.Table.{streamId, foundAnswer}
-use Rattle.capi.proofs.table.FoundAnswer as Z
-use Rattle.capi.proofs.table.FoundAnswer.Laws as Z′
-use Rattle.capi.proofs.table.found_answer.Symbol as say-def
-use Rattle.capi.proofs.table.found_answer.Symbol.{name as #say}
-use Rattle.capi.proofs.table.found_answer.Met as say-thm
+use Rattle.crossing.specs.Table.{foundAnswer}
+use Rattle.capi.specs.Table.{streamId}
+use Rattle.crossing.proofs.table.FoundAnswer as Z
+use Rattle.crossing.proofs.table.FoundAnswer.Laws as Z′
+use Rattle.crossing.proofs.table.found_answer.Symbol as say-def
+use Rattle.crossing.proofs.table.found_answer.Symbol.{name as #say}
+use Rattle.crossing.proofs.table.found_answer.Met as say-thm
 use Rattle.capi.proofs.table.mrz_stream_find.Key.{name as #f}
 use Rattle.capi.proofs.table.mrz_stream_find.Statement as stated
 use Rattle.capi.proofs.table.mrz_stream_find.Code as code
@@ -56,7 +57,7 @@ mrz-stream-find-spec 𝓤 H 𝓜 𝓖 𝓡 = meets-passing given (plain (λ _. f
     -- [what is passed; the token; the locals, the last first]
     assigns ! (agg ! (and-then ! (load ! (from ! (stop !)) (look ! 6 refl)) (no-more !))) (from ! (stop !)) (init ! 2 refl (LL.lawful N.the-type N′.the-laws 𝓤 H (𝓖 .A) W .typed (streamId id) _ id-is .0)) $
     move ! (1 ∷ 0 ∷ 4 ∷ 10 ∷ 11 ∷ []) $ answers 1 (slots beside) standing found Finds (λ y z. z ≡ foundAnswer y) ! fm (cited 𝓤 H _ 𝓜 𝓡 code.env #find find-def.routine code.calls-streams·table·find-stream (find-thm.met 𝓤 H 𝓜 𝓖 𝓡))
-    (cited 𝓤 H _ 𝓜 𝓡 code.env #say say-def.routine code.calls-capi·table·found-answer (say-thm.met 𝓤 H 𝓜 𝓖 𝓡)) κs qs (passed κs a) (values κs beside (passed κs a)) refl refl
+    (cited 𝓤 H _ 𝓜 𝓡 code.env #say say-def.routine code.calls-crossing·table·found-answer (say-thm.met 𝓤 H 𝓜 𝓖 𝓡)) κs qs (passed κs a) (values κs beside (passed κs a)) refl refl
     (and-then ! (load ! (from ! (stop !)) (look ! 9 refl)) (and-then ! (load ! (from ! (stop !)) (look ! 4 refl)) (no-more !))) (λ _ v y z ws e said.
     -- [the token; what is left; the answer; _3; _4; the rest of _4 and of _3; _2; _1]
     move ! (9 ∷ 10 ∷ 7 ∷ 8 ∷ 3 ∷ 6 ∷ 4 ∷ 5 ∷ []) $ clears ! $ clears ! $ clears ! $ clears ! $ free0 ! $

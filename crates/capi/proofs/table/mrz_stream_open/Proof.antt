@@ -8,17 +8,18 @@ use Rattle.streams.proofs.table.Opening.Laws as E′
 use Rattle.streams.proofs.table.open_stream.Symbol as change-def
 use Rattle.streams.proofs.table.open_stream.Symbol.{name as #change}
 use Rattle.streams.proofs.table.open_stream.Met as change-thm
-use Rattle.capi.specs.declared.table.OpenedAnswer.{OpenedAnswer}
-use Rattle.capi.specs.Numbers.{flagOf}
-use Rattle.capi.specs.Table.{streamId, opened, openedAnswer, openTable}
-use Rattle.capi.proofs.table.OpenedAnswer as Z
-use Rattle.capi.proofs.table.OpenedAnswer.Laws as Z′
-use Rattle.capi.proofs.numbers.flag_of.Symbol as read-def
-use Rattle.capi.proofs.numbers.flag_of.Symbol.{name as #read}
-use Rattle.capi.proofs.numbers.flag_of.Met as read-thm
-use Rattle.capi.proofs.table.opened_answer.Symbol as say-def
-use Rattle.capi.proofs.table.opened_answer.Symbol.{name as #say}
-use Rattle.capi.proofs.table.opened_answer.Met as say-thm
+use Rattle.crossing.specs.declared.table.OpenedAnswer.{OpenedAnswer}
+use Rattle.crossing.specs.Numbers.{flagOf}
+use Rattle.crossing.specs.Table.{openedAnswer}
+use Rattle.capi.specs.Table.{streamId, opened, openTable}
+use Rattle.crossing.proofs.table.OpenedAnswer as Z
+use Rattle.crossing.proofs.table.OpenedAnswer.Laws as Z′
+use Rattle.crossing.proofs.numbers.flag_of.Symbol as read-def
+use Rattle.crossing.proofs.numbers.flag_of.Symbol.{name as #read}
+use Rattle.crossing.proofs.numbers.flag_of.Met as read-thm
+use Rattle.crossing.proofs.table.opened_answer.Symbol as say-def
+use Rattle.crossing.proofs.table.opened_answer.Symbol.{name as #say}
+use Rattle.crossing.proofs.table.opened_answer.Met as say-thm
 use Rattle.capi.proofs.table.mrz_stream_open.Key.{name as #f}
 use Rattle.capi.proofs.table.mrz_stream_open.Statement as stated
 use Rattle.capi.proofs.table.mrz_stream_open.Code as code
@@ -38,6 +39,6 @@ unfolding code.routine
 mrz-stream-open-spec 𝓤 H 𝓜 𝓖 𝓡 =
     exports-change flag (choice E.the-type E′.the-laws tt E′.the-plain) (structure Z.the-type Z′.the-laws Z′.the-plain) #read #change #say
     (λ x s. s ≡ flagOf x) (λ t id s o t′. (o ≡ openingOf t id) × (t′ ≡ tableOpened t id s o)) (λ o r. r ≡ openedAnswer o) (λ t id x r t′. opened r t′ ≡ openTable t id x) together 𝓤 H 𝓜 𝓖 𝓡 code.env #f (code.unfolded 𝓤 H 𝓜 𝓡)
-    (cited 𝓤 H _ 𝓜 𝓡 code.env #read read-def.routine code.calls-capi·numbers·flag-of (read-thm.met 𝓤 H 𝓜 𝓖 𝓡))
+    (cited 𝓤 H _ 𝓜 𝓡 code.env #read read-def.routine code.calls-crossing·numbers·flag-of (read-thm.met 𝓤 H 𝓜 𝓖 𝓡))
     (cited 𝓤 H _ 𝓜 𝓡 code.env #change change-def.routine code.calls-streams·table·open-stream (change-thm.met 𝓤 H 𝓜 𝓖 𝓡))
-    (cited 𝓤 H _ 𝓜 𝓡 code.env #say say-def.routine code.calls-capi·table·opened-answer (say-thm.met 𝓤 H 𝓜 𝓖 𝓡))
+    (cited 𝓤 H _ 𝓜 𝓡 code.env #say say-def.routine code.calls-crossing·table·opened-answer (say-thm.met 𝓤 H 𝓜 𝓖 𝓡))

@@ -3,11 +3,9 @@ use borrow.Author.Needs.{needs}
 use Rattle.capsule.proofs.plan.plan_value.Statement.{statement}
 use Rattle.capsule.proofs.plan.plan_value.Tie as tie
 
--- src/plan.rt:68:9
 returns : tie.Need-returns
 returns c = rw (c .report .ensures, c .before .before .before .before .before .forwards .ensures, c .before .before .before .before .gathers .ensures, c .before .before .before .keeps .ensures, c .before .before .extent .ensures, value-ends _ _ _ _ _ _ (c .before .if1 .taken))
 
--- src/plan.rt:57:1
 returns-2 : tie.Need-returns-2
 returns-2 c = rw (c .before .before .before .before .forwards .ensures, c .before .before .before .gathers .ensures, c .before .before .keeps .ensures, c .before .extent .ensures, value-goes _ _ _ _ _ _ (c .if1 .left))
 

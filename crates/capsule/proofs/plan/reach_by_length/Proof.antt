@@ -17,11 +17,9 @@ ends c =
     let entry = c .before .before .before .before .before .before in
     omega (arith, ends-within _ _ _ _ (sym (taken (c .before .before .before)) ∙ c .before .taken2 .given .1), length-drop (entry .args .at) (entry .args .piece .now))
 
--- src/plan.rt:108:1
 returns-2 : tie.Need-returns-2
 returns-2 c = stops _ _ _ _ (c .plan-head2 .ensures ∙ ap (planHead _ _) (c .before .forwards .ensures) ∙ sym (length-more _ _ _ _ _ _ (sym (taken (c .before .before .before .before .before)) ∙ c .before .before .before .taken .given .1)))
 
--- src/plan.rt:108:1
 returns-3 : tie.Need-returns-3
 returns-3 c = rw (c .extent .ensures) (values _ _ _ _ _ _ _ (ends (c .before)) (omega arith) (sym (length-ends _ _ _ _ _ _ _ (sym (taken (c .before .before .before .before)) ∙ c .before .before .taken2 .given .1))))
 

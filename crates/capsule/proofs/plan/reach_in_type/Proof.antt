@@ -3,7 +3,6 @@ use Rattle.capsule.proofs.Reaching.{first-reached}
 use Rattle.capsule.proofs.plan.reach_in_type.Statement.{statement}
 use Rattle.capsule.proofs.plan.reach_in_type.Tie as tie
 
--- src/plan.rt:186:1
 returns-2 : tie.Need-returns-2
 returns-2 c = rw (c .extent .ensures) (first-reached _ _ _ (c .before .before .before .before .before .before .pre) (c .before .before .before .before .before .shared-slice-known .given 2 .fits) _ _ _ (sym (c .before .before .before .before .first-header .ensures) ∙ c .before .before .at .given .1))
 

@@ -1,4 +1,4 @@
-use Rattle.capsule.specs.Kinds.{finishesIn}
+use Rattle.capsule.specs.Calls.{finishesIn}
 use borrow.Author.Needs.{needs}
 use Rattle.capsule.proofs.reader.is_last.Statement.{statement}
 use Rattle.capsule.proofs.reader.is_last.Tie as tie

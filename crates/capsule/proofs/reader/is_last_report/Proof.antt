@@ -1,4 +1,4 @@
-use Rattle.capsule.specs.Kinds.{finishes}
+use Rattle.opening.specs.Kinds.{finishes}
 use borrow.Author.Needs.{needs}
 use Rattle.capsule.proofs.reader.is_last_report.Statement.{statement}
 use Rattle.capsule.proofs.reader.is_last_report.Tie as tie

@@ -1,4 +1,4 @@
-use Rattle.capsule.specs.Kinds.{judged}
+use Rattle.opening.specs.Kinds.{judged}
 use Rattle.capsule.specs.Reader.{lengthOf}
 use borrow.Author.Needs.{needs}
 use Rattle.capsule.proofs.reader.judge_report.Statement.{statement}

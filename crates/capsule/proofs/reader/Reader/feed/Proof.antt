@@ -3,7 +3,6 @@ use Rattle.capsule.proofs.Verdicts.{feed-refused, feed-taken}
 use Rattle.capsule.proofs.reader.Reader.feed.Statement.{statement}
 use Rattle.capsule.proofs.reader.Reader.feed.Tie as tie
 
--- src/reader.rt:239:5
 returns-2 : tie.Need-returns-2
 returns-2 c = c .before .before .before .before .before .before .take .ensures ∙ feed-taken _ _ _ (sym (c .before .before .before .before .before .before .before .before .before .before .before .before .verdict .ensures) ∙ c .before .before .before .before .before .before .before .before .before .before .enum-told .given .1)
 

@@ -15,15 +15,12 @@ held c = rw (c .held-of .ensures) (held-few _ _ (accepted (c .before .before .be
 fits : (c : tie.After-plan-of) → Fits (c .before .before .before .before .before .before .before .args .self .opening) (c .before .before .before .before .before .before .before .args .piece .now) (c .plan-of .result)
 fits c = rw (c .plan-of .ensures) (plan-fits _ _ _ (accepted (c .before .before .before .before .before .before .before) .phase))
 
--- src/reader.rt:210:9
 store-bytes-requires-2 : tie.Need-store-bytes-requires-2
 store-bytes-requires-2 c κs = let f = fits (c .before .before .before .before .before) in (f .starts, f .within, λ s. omega (arith, f .keeps s, accepted (c .before .before .before .before .before .before .before .before .before .before .before .before) .keeps (f .opts s)))
 
--- src/reader.rt:218:13
 forward-bytes-requires : tie.Need-forward-bytes-requires
 forward-bytes-requires c κs = let f = fits (c .before .before .before .before .before .before .before .before .before) in let h = held (c .before .before .before .before .before .before .before .before .before .before) in (f .within, omega arith, λ w. omega (arith, f .within, accepted (c .before .before .before .before .before .before .before .before .before .before .before .before .before .before .before .before) .forwards (f .forwards w)))
 
--- src/reader.rt:194:5
 returns : tie.Need-returns
 returns c = takes _ _ _ _ _ _ _ _ _ _ _ (c .before .before .before .before .before .before .before .before .before .before .before .before .before .before .before .before .held-of .ensures) (c .before .before .before .before .before .before .before .before .before .before .before .before .before .before .before .plan-of .ensures) (c .before .before .before .before .before .before .before .before .before .before .before .before .before .store-bytes .ensures) (c .before .before .before .before .before .before .before .before .before .store-bytes2 .ensures) (c .before .before .before .before .before .forward-bytes .ensures) (c .before .judge .ensures) (c .is-last .ensures)
 

@@ -4,7 +4,7 @@ use Rattle.capsule.proofs.reader.Reader.verdict.Statement.{statement}
 use Rattle.capsule.proofs.reader.Reader.verdict.Tie as tie
 
 returns-3 : tie.Need-returns-3
-returns-3 c = by-lengths _ _ _ _ _ (sym (c .before .before .before .before .is-makeable .ensures) ∙ not-false _ (c .before .before .before .if1 .left)) (c .before .before .if2 .left) _ (c .verdict .ensures)
+returns-3 c = by-lengths _ _ _ _ _ (sym (c .before .before .before .before .is-makeable .ensures) ∙ not-false _ (c .before .before .before .if1 .left)) (c .before .before .if2 .left) _ (c .lent-verdict .ensures)
 
 pub verdict-spec : {M : Type 1} → statement M
 verdict-spec =

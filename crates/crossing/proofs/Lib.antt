@@ -1,0 +1,2 @@
+pub mod StoredForm
+pub mod Standing

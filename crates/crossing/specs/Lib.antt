@@ -1,0 +1,13 @@
+pub mod Numbers
+pub mod Varint
+pub mod Words
+pub mod Standing
+pub mod Reader
+pub mod OneShot
+pub mod Table
+pub mod Frames
+pub mod AddressCapsules
+pub mod Messages
+pub mod Sight
+pub mod Identifiers
+pub mod Claims
