@@ -22,7 +22,7 @@ relay: lib
 	@$(CC) -std=c99 -O2 -Ibuild/include examples/h2_relay.c -Lbuild/lib -lmaruzhenu -lnghttp2 -o build/h2_relay
 	@build/h2_relay
 
-# Everything: the proofs, the edits that must be refused, the programs, the C examples, and the comparison of the listing
+# Everything: the proofs, the edits that must be rejected, the programs, the C examples, and the comparison of the listing
 # and of all calls with the independent implementation.
 test:
 	@bash tests/run
@@ -31,7 +31,7 @@ test:
 proved = mkdir -p build; set -o pipefail; \
   rt check $(1) 2>&1 | python3 tools/progress build/check.log $(1) && tail -n 1 build/check.log
 
-# All proofs and programs, without the edits that must be refused.
+# All proofs and programs, without the edits that must be rejected.
 quick:
 	@$(call proved)
 
@@ -40,7 +40,7 @@ check:
 	@[ -n "$(CRATE)" ] || { echo "usage: make check CRATE=x" >&2; exit 2; }
 	@$(call proved,$(CRATE))
 
-# One edit that must be refused: make edit CRATE=x EDIT=y.
+# One edit that must be rejected: make edit CRATE=x EDIT=y.
 edit:
 	@bash tools/edit "$(CRATE)" "$(EDIT)"
 

@@ -147,9 +147,10 @@ static void write_both(const mrz_stream *streams, size_t count, uint64_t stream_
 static void fill(mrz_stream *streams) {
     uint64_t i;
     for (i = 0; i < MRZ_TABLE_PLACES; i++) {
-        const mrz_opened opened = mrz_stream_open(streams, MRZ_TABLE_PLACES, 4 * i, i % 2);
+        const uint64_t stream_id = mrz_stream_id_of(i).stream_id;
+        const mrz_opened opened = mrz_stream_open(streams, MRZ_TABLE_PLACES, stream_id, i % 2);
         if (opened.refusal != MRZ_NOT_REFUSED || opened.place != i) {
-            fail("a stream was not opened at the lowest free place", 4 * i);
+            fail("a stream was not opened at the lowest free place", stream_id);
         }
     }
     printf("open 0, 4, .., 252: opened at 0, 1, .., 63\n");

@@ -180,14 +180,18 @@ struct stream {
 
 static struct stream client_objects[STREAMS], server_objects[STREAMS];
 
+static struct stream *place_of(struct stream *objects, uint64_t stream_id) {
+    return &objects[mrz_quarter_of(stream_id).quarter % STREAMS];
+}
+
 /* The host's own way from a stream ID to its object, here an array; null where there is none. */
 static struct stream *find(struct stream *objects, uint64_t stream_id) {
-    struct stream *object = &objects[stream_id / 4 % STREAMS];
+    struct stream *object = place_of(objects, stream_id);
     return object->record.flags != 0 && object->stream_id == stream_id ? object : NULL;
 }
 
 static void open_object(struct stream *objects, uint64_t stream_id) {
-    struct stream *object = &objects[stream_id / 4 % STREAMS];
+    struct stream *object = place_of(objects, stream_id);
     memset(object, 0, sizeof *object);
     object->stream_id = stream_id;
     expect("opening a stream", MRZ_NOT_REFUSED, mrz_stream_open(&object->record, 1, stream_id, 1).refusal);
@@ -215,13 +219,14 @@ static void with_one_record(void) {
     uint64_t counts[sizeof rules / sizeof rules[0]] = {0}, refused = 0, freed = 0, bytes = 0, i;
     unsigned round;
     for (i = 0; i < STREAMS; i++) {
-        open_object(client_objects, 4 * i);
+        open_object(client_objects, mrz_stream_id_of(i).stream_id);
     }
     for (round = 0; round < 4; round++) {
         for (i = 0; i < STREAMS; i++) {
             struct stream *object = &client_objects[i];
+            const uint64_t id = object->stream_id;
             uint8_t out[80];
-            const mrz_written written = mrz_write_frame(&object->record, 1, 4 * i, wide, payload, (size_t)(i % 65), out,
+            const mrz_written written = mrz_write_frame(&object->record, 1, id, wide, payload, (size_t)(i % 65), out,
                                                         sizeof out, 0);
             if (written.refusal != MRZ_NOT_REFUSED) {
                 expect("the refusal", MRZ_REFUSAL_SEND_SIDE_CLOSED, written.refusal);
@@ -230,16 +235,15 @@ static void with_one_record(void) {
                 counts[object_receives(out, (size_t)written.written)]++;
             }
             if (round == 0) { /* the first frame of each stream came before its request */
-                open_object(server_objects, 4 * i);
+                open_object(server_objects, id);
             }
             if (round == 1 && i % 5 == 0) { /* the end of the request overtakes the frames of the next round */
                 expect("closing", MRZ_NOT_REFUSED,
-                       mrz_stream_close(&server_objects[i].record, 1, 4 * i, MRZ_SIDE_RECEIVE).refusal);
+                       mrz_stream_close(&server_objects[i].record, 1, id, MRZ_SIDE_RECEIVE).refusal);
             }
             if (round == 2 && i % 5 == 0) {
-                expect("closing", MRZ_NOT_REFUSED,
-                       mrz_stream_close(&object->record, 1, 4 * i, MRZ_SIDE_SEND).refusal);
-                freed += mrz_stream_close(&server_objects[i].record, 1, 4 * i, MRZ_SIDE_SEND).freed;
+                expect("closing", MRZ_NOT_REFUSED, mrz_stream_close(&object->record, 1, id, MRZ_SIDE_SEND).refusal);
+                freed += mrz_stream_close(&server_objects[i].record, 1, id, MRZ_SIDE_SEND).freed;
             }
         }
     }

@@ -81,7 +81,7 @@ static size_t payload_length(unsigned round, size_t datagram) {
 /* Datagrams through the capsule writer, and capsules of unknown type between them. */
 static void make_good_stream(struct stream *stream, unsigned round) {
     mrz_stream streams[4] = {{0, 0}, {0, 0}, {0, 0}, {0, 0}};
-    const uint64_t id = 4 * (uint64_t)(round + 1);
+    const uint64_t id = mrz_stream_id_of(round + 1).stream_id; /* divisible by 4 */
     uint8_t payload[LIMIT];
     size_t datagram, i;
     mrz_opened opened = mrz_stream_open(streams, 4, id, 1);

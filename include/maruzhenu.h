@@ -1,25 +1,31 @@
 /*
  * Maruzhenu: HTTP Datagrams and the Capsule Protocol (RFC 9297), with the address capsules of proxied IP (RFC 9484).
  *
- * Link with libmaruzhenu.a. Of libc it needs memcpy, memmove and memset, and nothing else. It allocates nothing, keeps
- * no state and calls nothing back.
+ * Link with libmaruzhenu.a. It uses memcpy, memmove and memset of libc and nothing else. It allocates no memory, keeps
+ * no state between calls and calls nothing back.
  *
- * No function has a precondition on the values of its arguments: every number is read as something (see "Readings of
- * numbers"), and every call answers. What C itself must hold is left to the caller:
- *   - a pointer is aligned for its type and valid for its length: readable, and writable where it is not const;
- *   - a null pointer with length 0 is taken as an empty buffer; a reader is never null;
- *   - what a call may write (a reader that is not const, its gathering, addresses and output, out, and streams where
- *     they are not const) overlaps nothing else that the same call is handed, and no other thread touches it during the
- *     call; const buffers may overlap each other;
- *   - one reader is used by one thread at a time, and so is one table that is changed.
+ * Preconditions. No function has a precondition on the values of its arguments: every number has a meaning (see
+ * "Meaning of numbers"), and every call returns an answer. The caller must ensure what C itself requires:
+ *   - a pointer is aligned for its type and valid for its length: readable, and writable if it is not const;
+ *   - a null pointer with length 0 is an empty buffer; a pointer to a reader is never null;
+ *   - memory that a call may write (a reader that is not const, the gathering, addresses and output buffers, out, and
+ *     streams if they are not const) overlaps nothing else that is passed to the same call, and no other thread uses it
+ *     during the call; const buffers may overlap each other;
+ *   - a reader is used by one thread at a time, and so is a table that is changed.
  *
- * Refusals: the answer of a call that can be refused starts with `refusal`, or is it. 0 is "not refused"; any other
- * number is one of MRZ_REFUSAL_.., and then every other field is 0 and nothing behind any pointer has changed. Where
- * several would hold, the first in the order given with the function is answered.
+ * Refusals. The answer of a call that can be refused is a struct whose first field is `refusal`; mrz_reader_open
+ * returns the refusal itself. 0 means "not refused". Any other number is one of MRZ_REFUSAL_..; then every other field
+ * of the answer is 0, and no memory that was passed to the call has changed. "Refusals: 15, 7" at a function lists its
+ * refusals in order: if the conditions of several hold, the first in the list is answered.
  *
- * Readings of numbers: role 0 is endpoint, any other intermediary. draft and addresses (of an opening), semantics,
- * content_length, content_type, transfer_encoding and response: 0 is no, any other yes. side 0 is receive, any other
- * send. A status above 65,535 is read as 0, which is no status. Answers that are yes or no are 1 or 0.
+ * Meaning of numbers. role: 0 is endpoint, any other number intermediary. draft and addresses (of an opening),
+ * semantics, content_length, content_type, transfer_encoding and response: 0 is no, any other number yes. side: 0 is
+ * receive, any other number send. status: a number above 65,535 is read as 0, which is no status. An answer that is
+ * yes or no is 1 or 0.
+ *
+ * Words. Varint: a variable-length integer (RFC 9000, section 16). Quarter: a quarter stream ID, which is the stream ID
+ * divided by 4 (RFC 9297, section 2.1). Place: an index, of a byte in the output or in a value, or of a record in the
+ * stream table. x[a .. b) is the bytes x[a] to x[b - 1].
  */
 #ifndef MARUZHENU_H
 #define MARUZHENU_H
@@ -47,27 +53,27 @@ extern "C" {
 /* ---- refusals */
 
 #define MRZ_NOT_REFUSED 0
-#define MRZ_REFUSAL_UNMAKEABLE_STATE 1      /* no opening, feeding and closing makes such a reader; all zero is none */
+#define MRZ_REFUSAL_UNMAKEABLE_STATE 1      /* a state that no opening, feeding and closing makes, such as all zeros */
 #define MRZ_REFUSAL_FINISHED 2              /* the reader is finished */
 #define MRZ_REFUSAL_LIMIT_TOO_LARGE 3       /* datagram limit above 65,535 */
 #define MRZ_REFUSAL_GATHERING_TOO_SHORT 4   /* gathering buffer shorter than the datagram limit */
-#define MRZ_REFUSAL_OUTPUT_TOO_SHORT 5      /* below piece length + 8 (intermediary), or below what is to be written */
+#define MRZ_REFUSAL_OUTPUT_TOO_SHORT 5      /* below piece length + 8 (intermediary), or no room for what is written */
 #define MRZ_REFUSAL_NUMBER_TOO_LARGE 6      /* number above 2^62-1, stream limit above 2^60, payload above 65,535 */
 #define MRZ_REFUSAL_NOT_A_REQUEST_STREAM 7  /* stream ID not divisible by 4, or above 2^62-1 */
-#define MRZ_REFUSAL_NO_FREE_PLACE 8
-#define MRZ_REFUSAL_ALREADY_IN_TABLE 9
-#define MRZ_REFUSAL_NOT_IN_TABLE 10
-#define MRZ_REFUSAL_FRAMES_NOT_AGREED 11    /* not both settings are 1 */
+#define MRZ_REFUSAL_NO_FREE_PLACE 8         /* every record of the table is used */
+#define MRZ_REFUSAL_ALREADY_IN_TABLE 9      /* the table has a record of this stream */
+#define MRZ_REFUSAL_NOT_IN_TABLE 10         /* the table has no record of this stream */
+#define MRZ_REFUSAL_FRAMES_NOT_AGREED 11    /* our setting or the peer's is not 1 */
 #define MRZ_REFUSAL_SEND_SIDE_CLOSED 12
 #define MRZ_REFUSAL_NO_SEMANTICS 13         /* the request has no semantics for datagrams */
-#define MRZ_REFUSAL_FRAME_TOO_LONG 14       /* frame longer than the path size */
-#define MRZ_REFUSAL_BAD_TABLE 15            /* see the stream table */
-#define MRZ_REFUSAL_BUFFER_TOO_LONG 16      /* listing of more than 4,096 bytes */
-#define MRZ_REFUSAL_UNKNOWN_ERROR_OR_VERSION 17
-#define MRZ_REFUSAL_ADDRESSES_TOO_SHORT 18  /* address buffer below 1,024 bytes (endpoint that opted in) */
-#define MRZ_REFUSAL_MALFORMED_TO_WRITE 26   /* entries whose value reading would call malformed */
+#define MRZ_REFUSAL_FRAME_TOO_LONG 14       /* the frame, quarter included, is longer than the path size */
+#define MRZ_REFUSAL_BAD_TABLE 15            /* see "the stream table" */
+#define MRZ_REFUSAL_BUFFER_TOO_LONG 16      /* more than 4,096 bytes to list */
+#define MRZ_REFUSAL_UNKNOWN_ERROR_OR_VERSION 17 /* no error number, or no HTTP version */
+#define MRZ_REFUSAL_ADDRESSES_TOO_SHORT 18  /* address buffer shorter than 1,024 bytes (endpoint that opted in) */
+#define MRZ_REFUSAL_MALFORMED_TO_WRITE 26   /* entries whose value a reader would report as malformed */
 
-/* The name of a refusal, for logs; "unknown" for a number that is none. */
+/* The name of a refusal, for logs; "unknown" for a number that is no refusal. */
 static inline const char *mrz_refusal_name(uint64_t refusal) {
     switch (refusal) {
     case MRZ_NOT_REFUSED: return "not refused";
@@ -94,7 +100,7 @@ static inline const char *mrz_refusal_name(uint64_t refusal) {
     }
 }
 
-/* ---- errors, to be handed to mrz_translate */
+/* ---- errors, which mrz_translate translates */
 
 #define MRZ_NO_ERROR 0
 #define MRZ_ERROR_TRUNCATED 1
@@ -103,28 +109,31 @@ static inline const char *mrz_refusal_name(uint64_t refusal) {
 #define MRZ_ERROR_QUARTER_TOO_LARGE 4
 #define MRZ_ERROR_BEYOND_LIMIT 5
 #define MRZ_ERROR_BAD_SETTING 6
-#define MRZ_ERROR_MALFORMED 7                  /* translated as MRZ_ERROR_TRUNCATED is */
+#define MRZ_ERROR_MALFORMED 7                  /* translated like MRZ_ERROR_TRUNCATED */
 
 /* ---- varints (RFC 9000, section 16) */
 
-/* size 0: incomplete (then value 0) */
+/* size: 1, 2, 4 or 8; or 0 if the varint is incomplete, and then value is 0 */
 typedef struct mrz_varint { uint64_t value, size; } mrz_varint;
 
-/* The answer of every writer: how many bytes were written, from the place on. */
+/* The answer of every writer. written: how many bytes it wrote, out[place .. place + written). */
 typedef struct mrz_written { uint64_t refusal, written; } mrz_written;
 
-/* The varint at the front of the bytes. Never refused. */
+/* Reads the varint at the start of the bytes: its value and its size. Never refused. Changes nothing. */
 mrz_varint mrz_read_varint(const uint8_t *bytes, size_t bytes_len);
 
-/* The shortest varint of a number, at a place of the output; no other byte changes. Refusals: 6, 5. */
+/*
+ * Writes a number as a varint, in the shortest form, from out[place] on. No other byte of out changes.
+ * Refusals: 6, 5.
+ */
 mrz_written mrz_write_varint(uint64_t number, uint8_t *out, size_t out_len, uint64_t place);
 
 /* ---- the capsule reader */
 
 /*
- * A reader of one stream. Opaque: mrz_reader_open makes it, and the calls below take it. It holds no pointer, so it may
- * be moved and copied: a copy is a reader of its own. Words that no calls here could have made, all zero among them,
- * are refused 1.
+ * The state of a reader of one stream. Opaque: mrz_reader_open makes it, and the calls below use it. It contains no
+ * pointer, so it can be moved and copied; a copy is an independent reader. Words that these calls cannot have made are
+ * refused with 1; a zeroed struct is refused as well.
  */
 typedef struct mrz_reader { uint64_t words[8]; } mrz_reader;
 
@@ -133,137 +142,162 @@ typedef struct mrz_reader { uint64_t words[8]; } mrz_reader;
 
 #define MRZ_LARGEST_DATAGRAM_LIMIT 65535
 
-/* An intermediary's output has room for the piece and so many bytes more. */
+/* An intermediary's output must be longer than the piece by at least this many bytes. */
 #define MRZ_OUTPUT_HEADROOM 8
 
-/* The capsule types that an endpoint takes where it opted in (RFC 9484, section 4.7), and the bound of their values. */
+/* The address capsules, which an endpoint that opted in reads (RFC 9484, section 4.7), and their longest value. */
 #define MRZ_TYPE_ADDRESS_ASSIGN 1
 #define MRZ_TYPE_ADDRESS_REQUEST 2
 #define MRZ_TYPE_ROUTE_ADVERTISEMENT 3
 #define MRZ_LONGEST_ADDRESS_VALUE 1024
 
 #define MRZ_REPORT_NONE 0               /* no capsule ended in the piece */
-#define MRZ_REPORT_DELIVERED 1          /* DATAGRAM within the limit: its payload is gathering[0 .. length) */
+#define MRZ_REPORT_DELIVERED 1          /* DATAGRAM within the limit; its payload is gathering[0 .. length) */
 #define MRZ_REPORT_DROPPED 2            /* DATAGRAM longer than the limit */
-#define MRZ_REPORT_SKIPPED 3            /* another capsule, by an endpoint */
-#define MRZ_REPORT_PASSED 4             /* another capsule, by an intermediary */
-#define MRZ_REPORT_ADDRESS_DELIVERED 5  /* address capsule, well formed: its value is addresses[0 .. length) */
-#define MRZ_REPORT_MALFORMED 6          /* malformed address capsule: finished, every later feeding and close is 2 */
+#define MRZ_REPORT_SKIPPED 3            /* capsule of another type, at an endpoint */
+#define MRZ_REPORT_PASSED 4             /* capsule of another type, at an intermediary */
+#define MRZ_REPORT_ADDRESS_DELIVERED 5  /* well-formed address capsule; its value is addresses[0 .. length) */
+#define MRZ_REPORT_MALFORMED 6          /* malformed address capsule; the reader is finished (feeding and close: 2) */
 
 #define MRZ_END_NONE 0          /* refused */
-#define MRZ_END_CLEAN 1
-#define MRZ_END_TRUNCATED 2
+#define MRZ_END_CLEAN 1         /* the bytes end after a complete capsule, or there are none */
+#define MRZ_END_TRUNCATED 2     /* the bytes end inside a capsule */
 
 /*
+ * What is fixed when a reader is opened.
  * role: MRZ_ROLE_..
- * datagram_limit: the longest DATAGRAM that is delivered, at most MRZ_LARGEST_DATAGRAM_LIMIT.
- * draft: capsules of type 0xff37a5 are DATAGRAMs too, as draft-ietf-masque-h3-datagram-05 had it; type 0 always is.
- * addresses: an endpoint takes address capsules; without effect for an intermediary, which passes them.
+ * datagram_limit: the length of the longest DATAGRAM that is delivered, at most MRZ_LARGEST_DATAGRAM_LIMIT.
+ * draft: whether type 0xff37a5 is DATAGRAM too, as in draft-ietf-masque-h3-datagram-05; type 0 always is.
+ * addresses: whether an endpoint opts in to address capsules. No effect for an intermediary, which passes them on.
  */
 typedef struct mrz_opening { uint64_t role, datagram_limit, draft, addresses; } mrz_opening;
 
-/* Opens a reader, whatever stood there. Answers the refusal: 3. */
+/*
+ * Opens a reader: writes its state into *reader, whatever was there before. Returns 0 or the refusal.
+ * Refusals: 3.
+ */
 uint64_t mrz_reader_open(mrz_reader *reader, mrz_opening opening);
 
 /*
- * type is 0 for delivered and dropped; type and length are 0 where no capsule ended.
- * error: MRZ_ERROR_MALFORMED with MRZ_REPORT_MALFORMED, else 0
+ * consumed: how many bytes of the piece the call used. written: how many bytes it wrote, output[0 .. written).
+ * report: MRZ_REPORT_.., about the capsule that ended in the consumed bytes; type and length are that capsule's.
+ * type is 0 for a DATAGRAM (delivered or dropped, also of type 0xff37a5). If no capsule ended, type and length are 0.
+ * error: MRZ_ERROR_MALFORMED with MRZ_REPORT_MALFORMED, otherwise 0.
  */
 typedef struct mrz_fed { uint64_t refusal, consumed, written, report, type, length, error; } mrz_fed;
 
 /*
- * Feeds a piece of the stream. It consumes up to and including the byte that ends the first capsule to end in it, or
- * all of it: feed the rest, piece + consumed, again. Refusals: 1, 2, 4, 18, 5.
- * Of a piece that is not empty an accepted call consumes at least one byte. For an empty piece it answers all 0, and
- * nothing changes. An intermediary holds a type until it is complete, so written may exceed consumed, by at most 7.
+ * Feeds the next piece of the stream, of any length. The call consumes the piece up to and including the byte that ends
+ * the first capsule to end in it, or all of the piece if no capsule ends. Feed the rest, from piece + consumed on, with
+ * the next call. An accepted call consumes at least one byte of a piece that is not empty. An accepted call
+ * with an empty piece answers 0 in every field and changes nothing.
+ * Refusals: 1, 2, 4, 18, 5.
  *
- * gathering: at least the datagram limit. Value byte i of a DATAGRAM within the limit is stored at place i as it is
- * consumed, and no other byte changes; hand the same buffer in until the capsule has ended. A delivered payload stays
- * there until the next feeding.
- * addresses: at least MRZ_LONGEST_ADDRESS_VALUE for an endpoint that opted in; others do not look at it. Value byte i
- * of an address capsule is stored at place i as it is consumed, and the value is judged where it then stands, so hand
- * the same buffer in until the capsule has ended. A value longer than MRZ_LONGEST_ADDRESS_VALUE is malformed at its
- * length field, and nothing of it is stored or consumed. A malformed capsule finishes the reader.
- * "The same buffer" means the same contents. One buffer can be lent to many readers if the bytes gathered for each are
- * saved and put back (mrz_reader_look tells how many there are); lent to two without that, their datagrams are spoiled.
+ * Changes: *reader, and the bytes of gathering, addresses and output that are named here. No other byte changes.
  *
- * output: at least the piece's length + MRZ_OUTPUT_HEADROOM for an intermediary; an endpoint writes nothing. The bytes
- * to forward are output[0 .. written).
+ * gathering: at least datagram_limit bytes (otherwise 4). Value byte i of a DATAGRAM within the limit is stored at
+ * gathering[i] when it is consumed. Pass the same buffer until the capsule has ended. A delivered payload stays there
+ * until the next feeding.
+ *
+ * addresses: at least MRZ_LONGEST_ADDRESS_VALUE bytes for an endpoint that opted in (otherwise 18); other readers
+ * ignore it. Value byte i of an address capsule is stored at addresses[i] when it is consumed. The value is checked in
+ * this buffer when its last byte has been stored, so pass the same buffer until the capsule has ended. A value longer
+ * than MRZ_LONGEST_ADDRESS_VALUE is reported as malformed when its length field is complete; no byte of it is stored or
+ * consumed. A malformed capsule finishes the reader.
+ *
+ * "The same buffer" means the same contents. Several readers can share one buffer if the host saves and restores the
+ * bytes gathered for each reader (mrz_reader_look says how many there are). Without that, they overwrite each other's
+ * datagrams.
+ *
+ * output: for an intermediary at least piece_len + MRZ_OUTPUT_HEADROOM bytes (otherwise 5); an endpoint writes nothing.
+ * The bytes to forward are output[0 .. written). An intermediary holds back the bytes of a type until the type is
+ * complete, so written can be larger than consumed, by at most 7.
  */
 mrz_fed mrz_reader_feed(mrz_reader *reader, const uint8_t *piece, size_t piece_len,
                         uint8_t *gathering, size_t gathering_len, uint8_t *addresses, size_t addresses_len,
                         uint8_t *output, size_t output_len);
 
-/* end: MRZ_END_..; error: MRZ_ERROR_TRUNCATED where truncated, else 0 */
+/* end: MRZ_END_..; error: MRZ_ERROR_TRUNCATED if the end is truncated, otherwise 0 */
 typedef struct mrz_closed { uint64_t refusal, end, error; } mrz_closed;
 
 /*
- * The stream ended cleanly. Finishes the reader. Refusals: 1, 2.
- * A stream that was reset is not closed: its reader is dropped, and nothing need be called.
+ * Tells the reader that the stream ended with a clean close, and answers whether it ended between capsules. Changes
+ * *reader: it is finished, and later feedings and closes are refused with 2.
+ * Refusals: 1, 2.
+ * For a stream that was reset, no call is needed: discard the reader.
  */
 mrz_closed mrz_reader_close(mrz_reader *reader);
 
 #define MRZ_FIELD_NONE 0    /* between capsules */
-#define MRZ_FIELD_TYPE 1    /* at least one byte of a type has come */
-#define MRZ_FIELD_LENGTH 2  /* a type is complete; perhaps no byte of the length has come */
-#define MRZ_FIELD_VALUE 3
+#define MRZ_FIELD_TYPE 1    /* in a type, of which at least one byte has come */
+#define MRZ_FIELD_LENGTH 2  /* after a complete type; perhaps no byte of the length has come */
+#define MRZ_FIELD_VALUE 3   /* after a complete length, and the value is not complete */
 
-#define MRZ_BUFFER_NEITHER 0
-#define MRZ_BUFFER_GATHERING 1
-#define MRZ_BUFFER_ADDRESSES 2
+#define MRZ_BUFFER_NEITHER 0    /* the value is not stored */
+#define MRZ_BUFFER_GATHERING 1  /* a DATAGRAM within the limit */
+#define MRZ_BUFFER_ADDRESSES 2  /* an address capsule, of an endpoint that opted in */
 
-/* type says something only with MRZ_FIELD_LENGTH and _VALUE, what follows it only with MRZ_FIELD_VALUE; 0 otherwise. */
+/*
+ * type is set with MRZ_FIELD_LENGTH and MRZ_FIELD_VALUE; length, to_come, gathered and buffer are set with
+ * MRZ_FIELD_VALUE only. Otherwise they are 0.
+ */
 typedef struct mrz_look {
     uint64_t refusal, finished, datagram_limit;
-    uint64_t field;                 /* MRZ_FIELD_..: where what was fed so far ends */
-    uint64_t type;                  /* of the capsule, in a length or a value */
-    uint64_t length, to_come;       /* of its value, in a value */
-    uint64_t gathered, buffer;      /* so many bytes of the value stand in that buffer (MRZ_BUFFER_..), in a value */
+    uint64_t field;                 /* MRZ_FIELD_..: where the bytes fed so far end */
+    uint64_t type;                  /* the type of the unfinished capsule */
+    uint64_t length, to_come;       /* the length of its value, and how many bytes of it are missing */
+    uint64_t gathered, buffer;      /* how many bytes of the value are stored, and where: MRZ_BUFFER_.. */
 } mrz_look;
 
-/* A look at a reader, which does not change. A finished one is answered. Refusal: 1. */
+/*
+ * Answers where a reader is in its stream, its datagram limit and whether it is finished (1 or 0). A finished reader is
+ * not refused. Changes nothing.
+ * Refusals: 1.
+ */
 mrz_look mrz_reader_look(const mrz_reader *reader);
 
 /* ---- one-shot listing */
 
 #define MRZ_LONGEST_LISTING 4096
 
-/* complete capsules, the bytes of their type and length fields, and how the bytes end (MRZ_END_..) */
+/* capsules: how many are complete; headers: the bytes of their type and length fields; end: MRZ_END_.. */
 typedef struct mrz_listing { uint64_t refusal, capsules, headers, end; } mrz_listing;
 
 /*
- * Counts the capsules of a buffer. Refusal: 16.
- * Not for stacks below 256 KiB: its calls nest as deep as there are capsules. On a legal buffer 201,128 bytes of stack
- * were measured, and a smaller one overflows.
+ * Counts the capsules of a buffer. Changes nothing.
+ * Refusals: 16.
+ * Call it with at least 256 KiB of stack: its calls nest, deeper with each capsule of the buffer. On a legal buffer
+ * 201,128 bytes of stack were measured; a smaller stack overflows.
  */
 mrz_listing mrz_list(const uint8_t *bytes, size_t bytes_len);
 
 /*
  * ---- the stream table
  *
- * A row of at most MRZ_TABLE_PLACES records of the host's; the place of a stream is the index of its record. Each
- * length is a count of records, not of bytes. Every call looks through the whole row.
+ * A table is an array of at most MRZ_TABLE_PLACES records, owned by the host. The place of a stream is the index of its
+ * record. streams_len is a number of records, not of bytes. Every call reads the whole array.
  *
- * For more than MRZ_TABLE_PLACES streams, and for speed: a table of one record inside the host's own stream object, and
- * an empty table for a stream that is unknown. The host finds its object by the quarter; its place is 0. That no two
- * objects hold one stream is then the host's to see to: no call sees two records.
+ * A host that has more than MRZ_TABLE_PLACES streams, or needs more speed, puts a table of one record into its own
+ * stream object, and passes an empty table for an unknown stream. The host finds its object by the quarter, and the
+ * place is 0. The host must then ensure that no two objects hold the same stream, since no call sees two records.
  *     mrz_varint quarter = mrz_read_varint(frame, frame_len);
  *     struct host_stream *found = quarter.size == 0 ? NULL : host_find(quarter.value);
  *     mrz_judged judged = mrz_judge(found ? &found->record : NULL, found ? 1 : 0, limits, frame, frame_len);
  */
 #define MRZ_TABLE_PLACES 64
 
-/* A stream record, 16 bytes without padding. All zero is the blank, a free place. */
+/* A stream record, 16 bytes without padding. A record of zeros is the blank: a free place. */
 typedef struct mrz_stream {
     uint64_t quarter; /* the stream ID divided by 4 */
     uint64_t flags;   /* MRZ_STREAM_.. */
 } mrz_stream;
 
 /*
- * The bits of flags. Others mean nothing: of a used record they are not looked at, and only freeing the place clears
- * them; a free record that has one is not the blank.
- * Bad (15): more than MRZ_TABLE_PLACES records; a free record that is not the blank, to the last bit; a used record
- * whose quarter is above 2^60-1, one with neither side open, and two with the same quarter.
+ * The bits of flags. Other bits have no meaning: in a used record they are ignored, and only freeing the place clears
+ * them; a free record with such a bit is not the blank.
+ * A table is bad (refusal 15) if it has more than MRZ_TABLE_PLACES records, a free record that differs from the blank
+ * in any bit, a used record with a quarter above 2^60-1, a used record with both sides closed, or two used records with
+ * the same quarter.
  */
 #define MRZ_STREAM_USED 1      /* the record holds a stream */
 #define MRZ_STREAM_RECEIVE 2   /* the receive side is open */
@@ -273,106 +307,130 @@ typedef struct mrz_stream {
 #define MRZ_SIDE_RECEIVE 0
 #define MRZ_SIDE_SEND 1
 
-/* place: of the record that was taken */
+/* place: of the record that the stream was given */
 typedef struct mrz_opened { uint64_t refusal, place; } mrz_opened;
 
 /*
- * Opens a request stream at the lowest free place, both sides open; no other record changes. Refusals: 15, 7, 9, 8.
- * stream_id: a request stream's is divisible by 4, and its quarter is a fourth of it.
- * Open a stream after its request's fields are read, when its semantics are known. Opened before, without semantics, an
- * early datagram aborts it (rule 6); one for a stream that is not in the table is dropped (rule 4).
+ * Adds a request stream to the table: writes its record, with both sides open, at the lowest free place. No other
+ * record changes. semantics: whether the request has semantics for datagrams.
+ * Refusals: 15, 7, 9, 8.
+ * Call it after the request's header fields are read, when the semantics are known. If the stream is added earlier,
+ * without semantics, an early datagram aborts it (rule 6 of judging). While the stream is not in the table, an early
+ * datagram is dropped (rule 4).
  */
 mrz_opened mrz_stream_open(mrz_stream *streams, size_t streams_len, uint64_t stream_id, uint64_t semantics);
 
-/* place: of the stream's record; freed: 1 where both sides are closed and the record became the blank */
+/* place: of the stream's record; freed: 1 if both sides are now closed and the record became the blank, otherwise 0 */
 typedef struct mrz_side_closed { uint64_t refusal, place, freed; } mrz_side_closed;
 
 /*
- * Closes a side of a stream, MRZ_SIDE_..: clears that side's bit and no other, so nothing changes where it is closed
- * already. Where both sides are closed then, the record becomes the blank. No other record changes.
+ * Closes a side (MRZ_SIDE_..) of a stream: clears that side's bit and no other bit. If that side is closed already,
+ * nothing changes. If both sides are closed afterwards, the record becomes the blank. No other record changes.
  * Refusals: 15, 7, 10.
  */
 mrz_side_closed mrz_stream_close(mrz_stream *streams, size_t streams_len, uint64_t stream_id, uint64_t side);
 
+/* place: of the stream's record */
 typedef struct mrz_found { uint64_t refusal, place; } mrz_found;
 
-/* Where a stream stands. Refusals: 15, 7, 10. */
+/* Finds the record of a stream. Changes nothing. Refusals: 15, 7, 10. */
 mrz_found mrz_stream_find(const mrz_stream *streams, size_t streams_len, uint64_t stream_id);
 
+/* quarter: the stream ID divided by 4 */
 typedef struct mrz_quarter { uint64_t refusal, quarter; } mrz_quarter;
 
-/* The quarter of a request stream's ID. Refusal: 7. */
+/* Converts a request stream's ID to its quarter. Refusals: 7. */
 mrz_quarter mrz_quarter_of(uint64_t stream_id);
 
-/* too_large: 1 for a number above 2^60-1, which is no quarter; then stream_id is 0 */
+/* too_large: 1 if the number is above 2^60-1 and so is no quarter, and then stream_id is 0; otherwise 0 */
 typedef struct mrz_stream_id { uint64_t too_large, stream_id; } mrz_stream_id;
 
-/* The ID of the request stream that a quarter names. Never refused. */
+/* Converts a quarter to the ID of its request stream. Never refused. */
 mrz_stream_id mrz_stream_id_of(uint64_t quarter);
 
 /* ---- QUIC DATAGRAM payloads */
 
 /*
- * stream_limit: a frame whose quarter is at or above it is a connection error; MRZ_UNKNOWN_STREAMS, the largest, where
- * none is known.
- * datagram_limit: in bytes, at most MRZ_LARGEST_DATAGRAM_LIMIT.
+ * stream_limit: a frame whose quarter is at or above this number is a connection error. It is at most
+ * MRZ_UNKNOWN_STREAMS (2^60); pass that if no limit is known.
+ * datagram_limit: the length of the longest payload that is delivered, at most MRZ_LARGEST_DATAGRAM_LIMIT.
  */
 typedef struct mrz_limits { uint64_t stream_limit, datagram_limit; } mrz_limits;
 
-#define MRZ_UNKNOWN_STREAMS UINT64_C(1152921504606846976)
+#define MRZ_UNKNOWN_STREAMS UINT64_C(1152921504606846976) /* 2^60 */
 
 #define MRZ_RULE_NONE 0               /* refused */
-#define MRZ_RULE_SHORT_FRAME 1        /* connection error: MRZ_ERROR_SHORT_FRAME */
-#define MRZ_RULE_QUARTER_TOO_LARGE 2  /* connection error: MRZ_ERROR_QUARTER_TOO_LARGE */
-#define MRZ_RULE_BEYOND_LIMIT 3       /* connection error: MRZ_ERROR_BEYOND_LIMIT */
-#define MRZ_RULE_NO_STREAM 4          /* dropped */
-#define MRZ_RULE_RECEIVE_CLOSED 5     /* dropped */
-#define MRZ_RULE_NO_SEMANTICS 6       /* stream abort: MRZ_ERROR_NO_SEMANTICS */
-#define MRZ_RULE_TOO_LONG 7           /* dropped */
-#define MRZ_RULE_DELIVERED 8
+#define MRZ_RULE_SHORT_FRAME 1        /* the quarter is incomplete: connection error, MRZ_ERROR_SHORT_FRAME */
+#define MRZ_RULE_QUARTER_TOO_LARGE 2  /* quarter above 2^60-1: connection error, MRZ_ERROR_QUARTER_TOO_LARGE */
+#define MRZ_RULE_BEYOND_LIMIT 3       /* quarter at or above stream_limit: connection error, MRZ_ERROR_BEYOND_LIMIT */
+#define MRZ_RULE_NO_STREAM 4          /* the stream is not in the table: dropped */
+#define MRZ_RULE_RECEIVE_CLOSED 5     /* its receive side is closed: dropped */
+#define MRZ_RULE_NO_SEMANTICS 6       /* no semantics for datagrams: stream abort, MRZ_ERROR_NO_SEMANTICS */
+#define MRZ_RULE_TOO_LONG 7           /* the payload is longer than datagram_limit: dropped */
+#define MRZ_RULE_DELIVERED 8          /* none of the above */
 
 /*
- * rule: the first that matches. quarter: what the frame names, with rules 2 to 8. place: of the stream in the table,
- * with rules 5 to 8. With rule 8 the payload is frame[start .. start + length). Each is 0 with the other rules.
- * error: the rule's, else 0.
+ * rule: MRZ_RULE_.., the first that matches. quarter: the number that the frame starts with, set with rules 2 to 8.
+ * place: of the stream's record, set with rules 5 to 8. start, length: set with rule 8, where the payload is
+ * frame[start .. start + length). With the other rules each of these is 0.
+ * error: the error of the rule, or 0 if it has none.
  */
 typedef struct mrz_judged { uint64_t refusal, rule, quarter, place, start, length, error; } mrz_judged;
 
-/* Judges a received payload of a QUIC DATAGRAM frame. The table does not change. Refusals: 15, 3, 6. */
+/*
+ * Judges the payload of a received QUIC DATAGRAM frame: whether it is delivered or dropped, or is an error. Changes
+ * nothing.
+ * Refusals: 15, 3, 6.
+ */
 mrz_judged mrz_judge(const mrz_stream *streams, size_t streams_len, mrz_limits limits,
                      const uint8_t *frame, size_t frame_len);
 
-/* ---- writers: at a place of the output; no other byte changes */
+/*
+ * ---- writers
+ *
+ * A writer writes from out[place] on and answers how many bytes it wrote. Nothing else changes. It is refused with 5 if
+ * these bytes do not fit between place and out_len.
+ */
 
-/* The type and length of a DATAGRAM capsule, and the quarter of a frame, are at most so many bytes. */
+/* The most bytes that the header of a DATAGRAM capsule (type and length) and that of a frame (quarter) can have. */
 #define MRZ_LONGEST_CAPSULE_HEADER 5
 #define MRZ_LONGEST_FRAME_HEADER 8
 
-/* A DATAGRAM capsule for a stream: type 0, length, payload. Refusals: 15, 7, 10, 12, 13, 6, 5. */
+/*
+ * Writes a DATAGRAM capsule for a stream of the table: type 0, length in the shortest form, payload.
+ * Refusals: 15, 7, 10, 12, 13, 6, 5.
+ */
 mrz_written mrz_write_capsule(const mrz_stream *streams, size_t streams_len, uint64_t stream_id,
                               const uint8_t *payload, size_t payload_len,
                               uint8_t *out, size_t out_len, uint64_t place);
 
-/* The two settings, which must both be 1, and the largest payload of a DATAGRAM frame that the path carries. */
+/*
+ * our_setting, peer_setting: SETTINGS_H3_DATAGRAM as sent and as received; both must be 1 (otherwise 11).
+ * path_size: the longest payload of a QUIC DATAGRAM frame that the path carries, quarter included.
+ */
 typedef struct mrz_frame_terms { uint64_t our_setting, peer_setting, path_size; } mrz_frame_terms;
 
-/* The payload of a QUIC DATAGRAM frame for a stream: quarter, payload. Refusals: 15, 7, 10, 11, 12, 13, 6, 14, 5. */
+/*
+ * Writes the payload of a QUIC DATAGRAM frame for a stream of the table: quarter in the shortest form, payload.
+ * Refusals: 15, 7, 10, 11, 12, 13, 6, 14, 5.
+ */
 mrz_written mrz_write_frame(const mrz_stream *streams, size_t streams_len, uint64_t stream_id,
                             mrz_frame_terms terms, const uint8_t *payload, size_t payload_len,
                             uint8_t *out, size_t out_len, uint64_t place);
 
 /*
- * The bytes of that frame before a payload of so many bytes, which the host sends after them. Same refusals: 14 counts
- * the payload too, 5 these bytes alone.
+ * Writes only the quarter of such a frame; the host sends payload_length bytes of payload after it.
+ * Refusals: 15, 7, 10, 11, 12, 13, 6, 14, 5. 6 and 14 count the payload, 5 does not.
  */
 mrz_written mrz_write_frame_header(const mrz_stream *streams, size_t streams_len, uint64_t stream_id,
                                    mrz_frame_terms terms, uint64_t payload_length,
                                    uint8_t *out, size_t out_len, uint64_t place);
 
 /*
- * A DATAGRAM capsule without a table, and the bytes of one before a payload of so many bytes: for HTTP/2, whose stream
- * IDs are odd. That the stream is open, its send side too, and that its request has semantics for datagrams, which the
- * table would have checked, is the host's to see to. Refusals: 6, 5; of the header 5 is by its own bytes alone.
+ * Writes a DATAGRAM capsule without a table, for example on HTTP/2, whose stream IDs are odd; mrz_write_datagram_header
+ * writes only its type and length, and the host sends payload_length bytes of payload after them. The host must check
+ * what the table would check: the stream is open, its send side is open, and its request has semantics for datagrams.
+ * Refusals: 6, 5. 6 counts the payload; 5 counts the bytes that the call writes.
  */
 mrz_written mrz_write_datagram(const uint8_t *payload, size_t payload_len,
                                uint8_t *out, size_t out_len, uint64_t place);
@@ -381,49 +439,56 @@ mrz_written mrz_write_datagram_header(uint64_t payload_length, uint8_t *out, siz
 /*
  * ---- address capsules (RFC 9484, section 4.7)
  *
- * Well formed: at most MRZ_LONGEST_ADDRESS_VALUE bytes, whole entries and nothing behind them. IP versions are 4 or 6.
- * ADDRESS_ASSIGN and ADDRESS_REQUEST: the prefix length is at most 32 or 128, and the address's bits beyond it are 0; a
- * request names at least one address, and no request ID 0. ROUTE_ADVERTISEMENT: start is at most end; of two ranges the
- * version of the later is not lower, in one version its protocol is not lower, and in one version and protocol it
- * starts behind the other's end; a range for all protocols (0) overlaps none of its version.
+ * A value is well formed if
+ *   - it has at most MRZ_LONGEST_ADDRESS_VALUE bytes, and consists of whole entries with nothing after the last;
+ *   - each IP version is 4 or 6;
+ *   - ADDRESS_ASSIGN, ADDRESS_REQUEST: each prefix length is at most 32 (IPv4) or 128 (IPv6), and the bits of the
+ *     address after the prefix are 0;
+ *   - ADDRESS_REQUEST: it has at least one entry, and no request ID is 0;
+ *   - ROUTE_ADVERTISEMENT: the start of each range is not above its end. Of any two ranges, the later one has no lower
+ *     IP version, with the same version no lower protocol, and with the same version and protocol it starts after the
+ *     end of the earlier one. A range for all protocols (0) overlaps no other range of its version.
  */
 
 /*
  * An entry of ADDRESS_ASSIGN or ADDRESS_REQUEST, 32 bytes. An IPv4 address is address[0 .. 4). The other bytes of
- * address, and reserved, are 0 in what is read and not looked at in what is written.
+ * address, and reserved, are 0 in an entry that was read and are ignored in an entry to write.
  */
 typedef struct mrz_address {
     uint64_t request_id;
     uint8_t ip_version, prefix_length, address[16], reserved[6];
 } mrz_address;
 
-/* A range of ROUTE_ADVERTISEMENT, 34 bytes; IPv4 addresses likewise. ip_protocol 0: all protocols. */
+/* An entry of ROUTE_ADVERTISEMENT, 34 bytes. IPv4 addresses as in mrz_address. ip_protocol 0 means all protocols. */
 typedef struct mrz_route { uint8_t ip_version, ip_protocol, start[16], end[16]; } mrz_route;
 
-#define MRZ_ENTRY_NONE 0       /* the value's end, and any place behind it */
-#define MRZ_ENTRY_FOUND 1
-#define MRZ_ENTRY_MALFORMED 2  /* no whole entry stands there */
+#define MRZ_ENTRY_NONE 0       /* the place is at the end of the value or after it */
+#define MRZ_ENTRY_FOUND 1      /* the entry is in the answer */
+#define MRZ_ENTRY_MALFORMED 2  /* the bytes at the place are no whole entry */
 
-/* next: the place behind the entry, or the place itself where none was found; then the entry is all 0 */
+/* found: MRZ_ENTRY_..; next: the place after the entry. If none was found, next is `at` and the entry is all zeros. */
 typedef struct mrz_address_found { uint64_t found, next; mrz_address address; } mrz_address_found;
 typedef struct mrz_route_found { uint64_t found, next; mrz_route route; } mrz_route_found;
 
-/* Whether a value is well formed for an address capsule of that type, 0 or 1; 0 for any other type. Never refused. */
+/* Whether a value is well formed for an address capsule of this type: 1 or 0. 0 for any other type. Never refused. */
 uint64_t mrz_address_value_good(uint64_t type, const uint8_t *value, size_t value_len);
 
 /*
- * The entry of a value at a place: start at 0 and go on at next while MRZ_ENTRY_FOUND is answered. These split a value
- * and do not judge it. Never refused. Of a delivered capsule the value is the first `length` bytes of the address
- * buffer, and value_len is that length: behind it older bytes may stand.
+ * Reads the entry at a place of a value. Start with at = 0 and continue with at = next while found is MRZ_ENTRY_FOUND.
+ * These calls split a value and do not check it. Never refused. Change nothing.
+ * The value of a delivered capsule is the first `length` bytes of the address buffer: pass that length as value_len,
+ * since the buffer can hold bytes of earlier values after it.
  * mrz_address_next is for ADDRESS_ASSIGN and ADDRESS_REQUEST, mrz_route_next for ROUTE_ADVERTISEMENT.
  */
 mrz_address_found mrz_address_next(const uint8_t *value, size_t value_len, uint64_t at);
 mrz_route_found mrz_route_next(const uint8_t *value, size_t value_len, uint64_t at);
 
 /*
- * A whole capsule at a place of the output; no other byte changes. The size is IN BYTES, not a count of entries:
- * MRZ_ENTRIES(array, count) hands in both arguments. A size that is no multiple of the entry's is 26. A request ID
- * above 2^62-1 in any whole entry is 6, whatever else is wrong. Refusals: 6, 26, 5; of routes: 26, 5.
+ * Writes an address capsule from out[place] on: type, length, entries. No other byte of out changes.
+ * Refusals: 6, 26, 5; mrz_write_route_advertisement: 26, 5.
+ * addresses_size and routes_size are IN BYTES, not a number of entries; MRZ_ENTRIES(array, count) expands to the two
+ * arguments. A size that is no multiple of the size of an entry is refused with 26. A request ID above 2^62-1 in any
+ * whole entry is refused with 6, whatever else is wrong.
  */
 #define MRZ_ENTRIES(array, count) (array), (count) * sizeof *(array)
 
@@ -434,31 +499,31 @@ mrz_written mrz_write_address_request(const mrz_address *addresses, size_t addre
 mrz_written mrz_write_route_advertisement(const mrz_route *routes, size_t routes_size,
                                           uint8_t *out, size_t out_len, uint64_t place);
 
-/* ---- settings, messages, errors: never refused, but for translation */
+/* ---- settings, messages, errors. Only mrz_translate can be refused. */
 
 /*
- * A received SETTINGS_H3_DATAGRAM, and the value stored for 0-RTT (0 where none is): MRZ_ERROR_BAD_SETTING where it is
- * above 1 or below the stored one, else 0.
+ * Checks a received SETTINGS_H3_DATAGRAM. stored: the value stored for 0-RTT, 0 if none is stored. Answers
+ * MRZ_ERROR_BAD_SETTING if the received value is above 1 or below the stored one, otherwise 0.
  */
 uint64_t mrz_setting_error(uint64_t received, uint64_t stored);
 
 /*
- * Whether a message that uses the Capsule Protocol is malformed, 0 or 1: a request by any of the three fields, a
- * response also by status 204, 205 or 206.
+ * Whether a message that uses the Capsule Protocol is malformed: 1 or 0. A request is if it carries one of the three
+ * header fields; a response is if it carries one of them or its status is 204, 205 or 206.
  */
 uint64_t mrz_request_malformed(uint64_t content_length, uint64_t content_type, uint64_t transfer_encoding);
 uint64_t mrz_response_malformed(uint64_t status, uint64_t content_length, uint64_t content_type,
                                 uint64_t transfer_encoding);
 
 /*
- * Whether the Capsule-Protocol field counts, 0 or 1: on every request, and on responses with status 101 or 200 to 299.
- * response 0 is a request, whose status is not looked at.
+ * Whether the Capsule-Protocol header field counts on a message: 1 or 0. It counts on every request, and on a response
+ * with status 101 or 200 to 299. response: 0 for a request, whose status is ignored.
  */
 uint64_t mrz_field_counts(uint64_t response, uint64_t status);
 
 /*
- * Whether the field's value says that the Capsule Protocol is in use, 0 or 1: it is ?1, and may have spaces (0x20, no
- * tabs) at both ends.
+ * Whether the value of the Capsule-Protocol field says that the protocol is in use: 1 or 0. It does exactly if it is ?1
+ * without the spaces at both ends (0x20 only, no tabs).
  */
 uint64_t mrz_field_in_use(const uint8_t *value, size_t value_len);
 
@@ -466,15 +531,15 @@ uint64_t mrz_field_in_use(const uint8_t *value, size_t value_len);
 #define MRZ_VERSION_HTTP_2 2
 #define MRZ_VERSION_HTTP_3 3
 
-#define MRZ_ACTION_NONE 0              /* the error does not arise on this version; also where refused */
+#define MRZ_ACTION_NONE 0              /* the error does not arise on this version, or the call was refused */
 #define MRZ_ACTION_CLOSE 1             /* close the connection; there is no code */
-#define MRZ_ACTION_STREAM_ERROR 2
-#define MRZ_ACTION_CONNECTION_ERROR 3
+#define MRZ_ACTION_STREAM_ERROR 2      /* a stream error with the code */
+#define MRZ_ACTION_CONNECTION_ERROR 3  /* a connection error with the code */
 
-/* code: an error code of the HTTP version */
+/* action: MRZ_ACTION_..; code: an error code of the HTTP version, or 0 with MRZ_ACTION_NONE and MRZ_ACTION_CLOSE */
 typedef struct mrz_translation { uint64_t refusal, action, code; } mrz_translation;
 
-/* What an error becomes on an HTTP version. Refusal: 17. */
+/* Answers what to do about an error (MRZ_ERROR_..) on an HTTP version (MRZ_VERSION_HTTP_..). Refusals: 17. */
 mrz_translation mrz_translate(uint64_t error, uint64_t version);
 
 /* ---- the layout that the library was built for */

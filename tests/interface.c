@@ -28,6 +28,9 @@ static void compare(int line, const char *what, uint64_t expected, uint64_t foun
 
 #define IS(expected, found) compare(__LINE__, #found, (expected), (found))
 
+/* A field of an answer, in a function that is told the line and what is expected under the field's name. */
+#define SAME(answer, field) compare(line, #answer "." #field, field, answer.field)
+
 /* ---- version and names */
 
 static void version(void) {
@@ -82,28 +85,19 @@ static void clear(void) {
     memset(out, 0xee, sizeof out);
 }
 
-static void wrote(int line, mrz_written written, size_t place, const uint8_t *bytes, size_t length) {
+static void written_is(int line, uint64_t refusal, mrz_written answer, size_t place, const uint8_t *bytes,
+                       size_t written) {
     size_t i;
-    compare(line, "written.refusal", MRZ_NOT_REFUSED, written.refusal);
-    compare(line, "written.written", length, written.written);
+    SAME(answer, refusal);
+    SAME(answer, written);
     for (i = 0; i < sizeof out; i++) {
-        compare(line, "a byte of the output", i >= place && i - place < length ? bytes[i - place] : 0xee, out[i]);
+        compare(line, "a byte of the output", i >= place && i - place < written ? bytes[i - place] : 0xee, out[i]);
     }
     clear();
 }
 
-#define WROTE(call, place, text) wrote(__LINE__, call, place, BYTES(text))
-
-static void not_written(int line, mrz_written written, uint64_t refusal) {
-    size_t i;
-    compare(line, "written.refusal", refusal, written.refusal);
-    compare(line, "written.written", 0, written.written);
-    for (i = 0; i < sizeof out; i++) {
-        compare(line, "a byte of the output", 0xee, out[i]);
-    }
-}
-
-#define NOT_WRITTEN(refusal, call) not_written(__LINE__, call, refusal)
+#define WROTE(call, place, text) written_is(__LINE__, MRZ_NOT_REFUSED, call, place, BYTES(text))
+#define NOT_WRITTEN(refusal, call) written_is(__LINE__, refusal, call, 0, NULL, 0)
 
 static void varints(void) {
     mrz_varint varint = mrz_read_varint(BYTES("\x7b\xbd\x25"));
@@ -145,36 +139,25 @@ static mrz_fed feed(mrz_reader *reader, const uint8_t *piece, size_t length) {
                            length + MRZ_OUTPUT_HEADROOM);
 }
 
-static void fed_is(int line, uint64_t consumed, uint64_t written, uint64_t report, uint64_t type, uint64_t length,
-                   uint64_t error, mrz_fed fed) {
-    compare(line, "fed.refusal", MRZ_NOT_REFUSED, fed.refusal);
-    compare(line, "fed.consumed", consumed, fed.consumed);
-    compare(line, "fed.written", written, fed.written);
-    compare(line, "fed.report", report, fed.report);
-    compare(line, "fed.type", type, fed.type);
-    compare(line, "fed.length", length, fed.length);
-    compare(line, "fed.error", error, fed.error);
+static void fed_is(int line, uint64_t refusal, uint64_t consumed, uint64_t written, uint64_t report, uint64_t type,
+                   uint64_t length, uint64_t error, mrz_fed fed) {
+    SAME(fed, refusal);
+    SAME(fed, consumed);
+    SAME(fed, written);
+    SAME(fed, report);
+    SAME(fed, type);
+    SAME(fed, length);
+    SAME(fed, error);
 }
 
 #define FED(consumed, written, report, type, length, error, fed) \
-    fed_is(__LINE__, consumed, written, report, type, length, error, fed)
-
-static void not_fed(int line, uint64_t refusal, mrz_fed fed) {
-    compare(line, "fed.refusal", refusal, fed.refusal);
-    compare(line, "fed.consumed", 0, fed.consumed);
-    compare(line, "fed.written", 0, fed.written);
-    compare(line, "fed.report", MRZ_REPORT_NONE, fed.report);
-    compare(line, "fed.type", 0, fed.type);
-    compare(line, "fed.length", 0, fed.length);
-    compare(line, "fed.error", MRZ_NO_ERROR, fed.error);
-}
-
-#define NOT_FED(refusal, fed) not_fed(__LINE__, refusal, fed)
+    fed_is(__LINE__, MRZ_NOT_REFUSED, consumed, written, report, type, length, error, fed)
+#define NOT_FED(refusal, fed) fed_is(__LINE__, refusal, 0, 0, MRZ_REPORT_NONE, 0, 0, MRZ_NO_ERROR, fed)
 
 static void closed_is(int line, uint64_t refusal, uint64_t end, uint64_t error, mrz_closed closed) {
-    compare(line, "closed.refusal", refusal, closed.refusal);
-    compare(line, "closed.end", end, closed.end);
-    compare(line, "closed.error", error, closed.error);
+    SAME(closed, refusal);
+    SAME(closed, end);
+    SAME(closed, error);
 }
 
 #define CLOSED(refusal, end, error, closed) closed_is(__LINE__, refusal, end, error, closed)
@@ -263,14 +246,14 @@ static void look_is(int line, uint64_t finished, uint64_t datagram_limit, uint64
                     uint64_t length, uint64_t to_come, uint64_t gathered, uint64_t buffer, const mrz_reader *reader) {
     const mrz_look look = mrz_reader_look(reader);
     compare(line, "look.refusal", MRZ_NOT_REFUSED, look.refusal);
-    compare(line, "look.finished", finished, look.finished);
-    compare(line, "look.datagram_limit", datagram_limit, look.datagram_limit);
-    compare(line, "look.field", field, look.field);
-    compare(line, "look.type", type, look.type);
-    compare(line, "look.length", length, look.length);
-    compare(line, "look.to_come", to_come, look.to_come);
-    compare(line, "look.gathered", gathered, look.gathered);
-    compare(line, "look.buffer", buffer, look.buffer);
+    SAME(look, finished);
+    SAME(look, datagram_limit);
+    SAME(look, field);
+    SAME(look, type);
+    SAME(look, length);
+    SAME(look, to_come);
+    SAME(look, gathered);
+    SAME(look, buffer);
 }
 
 #define LOOK(finished, limit, field, type, length, to_come, gathered, buffer, reader) \
@@ -317,10 +300,10 @@ static void sharing(void) {
 
 static void listing_is(int line, uint64_t refusal, uint64_t capsules, uint64_t headers, uint64_t end,
                        mrz_listing listing) {
-    compare(line, "listing.refusal", refusal, listing.refusal);
-    compare(line, "listing.capsules", capsules, listing.capsules);
-    compare(line, "listing.headers", headers, listing.headers);
-    compare(line, "listing.end", end, listing.end);
+    SAME(listing, refusal);
+    SAME(listing, capsules);
+    SAME(listing, headers);
+    SAME(listing, end);
 }
 
 #define LISTING(refusal, capsules, headers, end, listing) \
@@ -345,7 +328,8 @@ static void fill(mrz_stream *streams) {
     uint64_t i;
     memset(streams, 0, PLACES * sizeof *streams);
     for (i = 0; i < PLACES; i++) {
-        const mrz_opened opened = mrz_stream_open(streams, PLACES, 268 + 4 * i, i == 5 ? 0 : 100);
+        const uint64_t stream_id = mrz_stream_id_of(67 + i).stream_id;
+        const mrz_opened opened = mrz_stream_open(streams, PLACES, stream_id, i == 5 ? 0 : 100);
         IS(MRZ_NOT_REFUSED, opened.refusal);
         IS(i, opened.place);
         IS(67 + i, streams[i].quarter);
@@ -354,22 +338,22 @@ static void fill(mrz_stream *streams) {
 }
 
 static void side_closed(int line, uint64_t refusal, uint64_t place, uint64_t freed, mrz_side_closed closed) {
-    compare(line, "closed.refusal", refusal, closed.refusal);
-    compare(line, "closed.place", place, closed.place);
-    compare(line, "closed.freed", freed, closed.freed);
+    SAME(closed, refusal);
+    SAME(closed, place);
+    SAME(closed, freed);
 }
 
 #define SIDE_CLOSED(refusal, place, freed, closed) side_closed(__LINE__, refusal, place, freed, closed)
 
 static void found_is(int line, uint64_t refusal, uint64_t place, mrz_found found) {
-    compare(line, "found.refusal", refusal, found.refusal);
-    compare(line, "found.place", place, found.place);
+    SAME(found, refusal);
+    SAME(found, place);
 }
 
 #define FOUND(refusal, place, found) found_is(__LINE__, refusal, place, found)
 
 static void not_opened(int line, uint64_t refusal, mrz_opened opened) {
-    compare(line, "opened.refusal", refusal, opened.refusal);
+    SAME(opened, refusal);
     compare(line, "opened.place", 0, opened.place);
 }
 
@@ -436,13 +420,13 @@ static mrz_judged judge(uint64_t stream_limit, uint64_t datagram_limit, const ui
 
 static void judged_is(int line, uint64_t refusal, uint64_t rule, uint64_t quarter, uint64_t place, uint64_t start,
                       uint64_t length, uint64_t error, mrz_judged judged) {
-    compare(line, "judged.refusal", refusal, judged.refusal);
-    compare(line, "judged.rule", rule, judged.rule);
-    compare(line, "judged.quarter", quarter, judged.quarter);
-    compare(line, "judged.place", place, judged.place);
-    compare(line, "judged.start", start, judged.start);
-    compare(line, "judged.length", length, judged.length);
-    compare(line, "judged.error", error, judged.error);
+    SAME(judged, refusal);
+    SAME(judged, rule);
+    SAME(judged, quarter);
+    SAME(judged, place);
+    SAME(judged, start);
+    SAME(judged, length);
+    SAME(judged, error);
 }
 
 #define JUDGED(refusal, rule, quarter, place, start, length, error, judged) \
@@ -505,8 +489,25 @@ static mrz_written write_frame(uint64_t stream_id, mrz_frame_terms terms, size_t
     return mrz_write_frame(written_by, PLACES, stream_id, terms, payload, length, out, 40, place);
 }
 
-static mrz_written write_frame_header(uint64_t stream_id, mrz_frame_terms terms, uint64_t length, uint64_t place) {
+static mrz_written write_frame_header(uint64_t stream_id, mrz_frame_terms terms, size_t length, uint64_t place) {
     return mrz_write_frame_header(written_by, PLACES, stream_id, terms, length, out, 40, place);
+}
+
+/* What is refused for a frame and for its header alike. */
+static void frames_refused(const char *name, mrz_written (*write)(uint64_t, mrz_frame_terms, size_t, uint64_t)) {
+    const mrz_frame_terms good = terms_of(1, 1, 5);
+    const int before = failures;
+    NOT_WRITTEN(MRZ_REFUSAL_NOT_A_REQUEST_STREAM, write(285, good, 3, 4));
+    NOT_WRITTEN(MRZ_REFUSAL_NOT_IN_TABLE, write(300, good, 3, 4));
+    NOT_WRITTEN(MRZ_REFUSAL_FRAMES_NOT_AGREED, write(284, terms_of(0, 1, 5), 3, 4));
+    NOT_WRITTEN(MRZ_REFUSAL_FRAMES_NOT_AGREED, write(284, terms_of(1, 0, 5), 3, 4));
+    NOT_WRITTEN(MRZ_REFUSAL_SEND_SIDE_CLOSED, write(280, good, 3, 4));
+    NOT_WRITTEN(MRZ_REFUSAL_NO_SEMANTICS, write(288, good, 3, 4));
+    NOT_WRITTEN(MRZ_REFUSAL_NUMBER_TOO_LARGE, write(284, good, 65536, 4));
+    NOT_WRITTEN(MRZ_REFUSAL_FRAME_TOO_LONG, write(284, terms_of(1, 1, 4), 3, 4));
+    if (failures > before) {
+        printf("these of %s\n", name);
+    }
 }
 
 static void writers(void) {
@@ -526,27 +527,13 @@ static void writers(void) {
     NOT_WRITTEN(MRZ_REFUSAL_OUTPUT_TOO_SHORT, write_capsule(284, 3, 36));
 
     WROTE(write_frame(284, good, 3, 4), 4, "\x40\x47" "abc");
-    NOT_WRITTEN(MRZ_REFUSAL_NOT_A_REQUEST_STREAM, write_frame(285, good, 3, 4));
-    NOT_WRITTEN(MRZ_REFUSAL_NOT_IN_TABLE, write_frame(300, good, 3, 4));
-    NOT_WRITTEN(MRZ_REFUSAL_FRAMES_NOT_AGREED, write_frame(284, terms_of(0, 1, 5), 3, 4));
-    NOT_WRITTEN(MRZ_REFUSAL_FRAMES_NOT_AGREED, write_frame(284, terms_of(1, 0, 5), 3, 4));
-    NOT_WRITTEN(MRZ_REFUSAL_SEND_SIDE_CLOSED, write_frame(280, good, 3, 4));
-    NOT_WRITTEN(MRZ_REFUSAL_NO_SEMANTICS, write_frame(288, good, 3, 4));
-    NOT_WRITTEN(MRZ_REFUSAL_NUMBER_TOO_LARGE, write_frame(284, good, 65536, 4));
-    NOT_WRITTEN(MRZ_REFUSAL_FRAME_TOO_LONG, write_frame(284, terms_of(1, 1, 4), 3, 4));
+    frames_refused("mrz_write_frame", write_frame);
     NOT_WRITTEN(MRZ_REFUSAL_OUTPUT_TOO_SHORT, write_frame(284, good, 3, 36));
 
     WROTE(write_frame_header(284, good, 3, 4), 4, "\x40\x47");
     WROTE(mrz_write_frame_header(&last, 1, LARGEST - 3, terms_of(1, 1, 100), 92, out, MRZ_LONGEST_FRAME_HEADER, 0), 0,
           "\xcf\xff\xff\xff\xff\xff\xff\xff");
-    NOT_WRITTEN(MRZ_REFUSAL_NOT_A_REQUEST_STREAM, write_frame_header(285, good, 3, 4));
-    NOT_WRITTEN(MRZ_REFUSAL_NOT_IN_TABLE, write_frame_header(300, good, 3, 4));
-    NOT_WRITTEN(MRZ_REFUSAL_FRAMES_NOT_AGREED, write_frame_header(284, terms_of(0, 1, 5), 3, 4));
-    NOT_WRITTEN(MRZ_REFUSAL_FRAMES_NOT_AGREED, write_frame_header(284, terms_of(1, 0, 5), 3, 4));
-    NOT_WRITTEN(MRZ_REFUSAL_SEND_SIDE_CLOSED, write_frame_header(280, good, 3, 4));
-    NOT_WRITTEN(MRZ_REFUSAL_NO_SEMANTICS, write_frame_header(288, good, 3, 4));
-    NOT_WRITTEN(MRZ_REFUSAL_NUMBER_TOO_LARGE, write_frame_header(284, good, 65536, 4));
-    NOT_WRITTEN(MRZ_REFUSAL_FRAME_TOO_LONG, write_frame_header(284, terms_of(1, 1, 4), 3, 4));
+    frames_refused("mrz_write_frame_header", write_frame_header);
     NOT_WRITTEN(MRZ_REFUSAL_OUTPUT_TOO_SHORT, write_frame_header(284, good, 3, 39));
 
     WROTE(mrz_write_datagram(payload, 3, out, 40, 6), 6, "\0\x03" "abc");
@@ -579,10 +566,10 @@ static void address_found(int line, uint64_t next, uint64_t request_id, uint8_t 
                           const char *ip, mrz_address_found found) {
     static const uint8_t zeros[6] = {0};
     compare(line, "found.found", MRZ_ENTRY_FOUND, found.found);
-    compare(line, "found.next", next, found.next);
-    compare(line, "found.address.request_id", request_id, found.address.request_id);
-    compare(line, "found.address.ip_version", ip_version, found.address.ip_version);
-    compare(line, "found.address.prefix_length", prefix_length, found.address.prefix_length);
+    SAME(found, next);
+    SAME(found.address, request_id);
+    SAME(found.address, ip_version);
+    SAME(found.address, prefix_length);
     compare(line, "found.address.address", 0, memcmp(found.address.address, ip, 16) != 0);
     compare(line, "found.address.reserved", 0, memcmp(found.address.reserved, zeros, 6) != 0);
 }
@@ -704,9 +691,9 @@ static void messages(void) {
 }
 
 static void translated(int line, uint64_t refusal, uint64_t action, uint64_t code, mrz_translation translation) {
-    compare(line, "translation.refusal", refusal, translation.refusal);
-    compare(line, "translation.action", action, translation.action);
-    compare(line, "translation.code", code, translation.code);
+    SAME(translation, refusal);
+    SAME(translation, action);
+    SAME(translation, code);
 }
 
 #define TRANSLATED(refusal, action, code, translation) translated(__LINE__, refusal, action, code, translation)

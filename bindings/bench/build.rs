@@ -5,6 +5,7 @@ use std::env;
 
 fn main() {
     for (variable, library, kind, cfg) in [
+        ("BASE_PEER", "maruzhenu_now", "static", "base"),
         ("BASE_PEER", "maruzhenu_base", "static", "base"),
         ("NGHTTP3_PEER", "nghttp3_peer", "static", "nghttp3"),
         ("QUINN_PEER", "quinn_peer", "dylib", "quinn"),

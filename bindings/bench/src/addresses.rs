@@ -7,7 +7,7 @@ use independent::addresses::{self, AddressType, Found};
 use maruzhenu::addresses::{Address, Route};
 use maruzhenu::raw;
 
-use crate::calls::row;
+use crate::calls::{row, PLAIN};
 use crate::measure::Work;
 use crate::Row;
 
@@ -54,6 +54,15 @@ fn routes_of_six(count: u16) -> Vec<Route> {
 
 type Writer = fn(&[u8], &mut [u8], u64) -> raw::Written;
 
+/// The name of a capsule type, and its writer.
+fn written(capsule_type: AddressType) -> (&'static str, Writer) {
+    match capsule_type {
+        AddressType::Assign => ("ADDRESS_ASSIGN", raw::write_address_assign),
+        AddressType::Request => ("ADDRESS_REQUEST", raw::write_address_request),
+        AddressType::Route => ("ROUTE_ADVERTISEMENT", raw::write_route_advertisement),
+    }
+}
+
 /// The value that is written from entries.
 fn value(writer: Writer, entries: &[u8]) -> Vec<u8> {
     let mut out = vec![0; 1_100];
@@ -64,75 +73,43 @@ fn value(writer: Writer, entries: &[u8]) -> Vec<u8> {
 }
 
 pub fn rows() -> Vec<Row> {
-    let assigned = addresses_of_four(128);
-    let six = addresses_of_six(53);
-    let one_protocol = routes_of_four(102, [17, 17]);
-    let two_protocols = routes_of_four(102, [0, 17]);
-    let routes_of_six = routes_of_six(30);
-    let (assign, request): (Writer, Writer) =
-        (raw::write_address_assign, raw::write_address_request);
-    let route: Writer = raw::write_route_advertisement;
-    let lists: [(&str, AddressType, Writer, &[u8]); 6] = [
+    use AddressType::{Assign, Request, Route};
+    let assigned = raw::address_bytes(&addresses_of_four(128)).to_vec();
+    let six = raw::address_bytes(&addresses_of_six(53)).to_vec();
+    let one_protocol = raw::route_bytes(&routes_of_four(102, [17, 17])).to_vec();
+    let two_protocols = raw::route_bytes(&routes_of_four(102, [0, 17])).to_vec();
+    let routes_of_six = raw::route_bytes(&routes_of_six(30)).to_vec();
+    let lists = [
+        (Assign, "128 of version 4", &assigned),
+        (Assign, "53 of version 6", &six),
+        (Request, "128 of version 4", &assigned),
+        (Route, "102 of version 4, one protocol", &one_protocol),
         (
-            "ADDRESS_ASSIGN, 128 of version 4",
-            AddressType::Assign,
-            assign,
-            raw::address_bytes(&assigned),
+            Route,
+            "102 of version 4, 51 for all protocols",
+            &two_protocols,
         ),
-        (
-            "ADDRESS_ASSIGN, 53 of version 6",
-            AddressType::Assign,
-            assign,
-            raw::address_bytes(&six),
-        ),
-        (
-            "ADDRESS_REQUEST, 128 of version 4",
-            AddressType::Request,
-            request,
-            raw::address_bytes(&assigned),
-        ),
-        (
-            "ROUTE_ADVERTISEMENT, 102 of version 4, one protocol",
-            AddressType::Route,
-            route,
-            raw::route_bytes(&one_protocol),
-        ),
-        (
-            "ROUTE_ADVERTISEMENT, 102 of version 4, 51 for all protocols",
-            AddressType::Route,
-            route,
-            raw::route_bytes(&two_protocols),
-        ),
-        (
-            "ROUTE_ADVERTISEMENT, 30 of version 6",
-            AddressType::Route,
-            route,
-            raw::route_bytes(&routes_of_six),
-        ),
+        (Route, "30 of version 6", &routes_of_six),
     ];
     let mut rows = Vec::new();
-    for (name, capsule_type, writer, entries) in lists {
+    for (capsule_type, list, entries) in lists {
+        let (name, writer) = written(capsule_type);
+        let name = format!("{name}, {list}");
         let value = &value(writer, entries)[..];
         let work = format!("check of {} bytes, {name}", value.len());
         rows.push(check(work, capsule_type, value));
         rows.push(split(format!("entries of {name}"), capsule_type, value));
-        rows.push(write(
-            format!("writing {name}"),
-            capsule_type,
-            writer,
-            entries,
-        ));
+        rows.push(write(format!("writing {name}"), capsule_type, entries));
     }
-    for (name, capsule_type, writer, entries) in lists {
-        let one = match capsule_type {
-            AddressType::Route => &entries[..34],
-            _ => &entries[..32],
+    for (capsule_type, _, entries) in lists {
+        let (size, version) = match capsule_type {
+            Route => (34, entries[0]),
+            Assign | Request => (32, entries[8]),
         };
-        let name = name.split(", ").next().expect("there is a first part");
-        let version = one[if one.len() == 32 { 8 } else { 0 }];
+        let name = written(capsule_type).0;
         let work = format!("writing {name}, one of version {version}");
         if rows.iter().all(|row| row.work != work) {
-            rows.push(write(work, capsule_type, writer, one));
+            rows.push(write(work, capsule_type, &entries[..size]));
         }
     }
     rows
@@ -140,14 +117,11 @@ pub fn rows() -> Vec<Row> {
 
 /// A row beside the independent code, which compares every two ranges.
 fn beside(work: String, capsule_type: AddressType, ours: Work, theirs: Work) -> Row {
-    let row = row(work, None, ours, theirs);
-    match capsule_type {
-        AddressType::Route => Row {
-            peer: "plain Rust, every two ranges compared",
-            ..row
-        },
-        _ => row,
-    }
+    let peer = match capsule_type {
+        AddressType::Route => "plain Rust, every two ranges compared",
+        _ => PLAIN,
+    };
+    row(work, peer, None, [ours, theirs])
 }
 
 fn check(work: String, capsule_type: AddressType, value: &[u8]) -> Row {
@@ -196,7 +170,7 @@ fn split(work: String, capsule_type: AddressType, value: &[u8]) -> Row {
             (at, count) = (next, count + 1);
         }
     });
-    row(work, None, ours, theirs)
+    row(work, PLAIN, None, [ours, theirs])
 }
 
 fn next_place<T>(found: Found<T>) -> Option<u64> {
@@ -206,7 +180,8 @@ fn next_place<T>(found: Found<T>) -> Option<u64> {
     }
 }
 
-fn write(work: String, capsule_type: AddressType, writer: Writer, entries: &[u8]) -> Row {
+fn write(work: String, capsule_type: AddressType, entries: &[u8]) -> Row {
+    let writer = written(capsule_type).1;
     let (mut out, mut other) = (vec![0; 1_100], vec![0; 1_100]);
     let ours: Work = Box::new(|| writer(black_box(entries), &mut out, 3).written);
     let theirs: Work = Box::new(|| {

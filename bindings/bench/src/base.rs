@@ -1,98 +1,97 @@
-//! The archive of an earlier state, whose symbols have `base_` before their names: the last one whose openings are numbers
-//! in a row, whose words have no mark, and whose tables are a row of quarters and a row of marks.
+//! The calls that are measured, of an archive: this one's, and that of an earlier revision. Both are called through the
+//! same declarations, as include/maruzhenu.h has them now, and by the same machine code.
 
-use maruzhenu::raw::{self, Stream};
-use maruzhenu::reader::Fed;
-use maruzhenu::{Buffers, Opening, Refusal, Role};
+use maruzhenu::raw::{Fed, FrameTerms, Judged, Limits, Opening, Reader, Stream, Varint, Written};
+use maruzhenu::Buffers;
 
-extern "C" {
-    fn base_mrz_read_varint(bytes: *const u8, bytes_len: usize) -> raw::Varint;
-    fn base_mrz_reader_open(
-        words: *mut u64,
-        role: u64,
-        limit: u64,
-        draft: u64,
-        addresses: u64,
-    ) -> u64;
-    fn base_mrz_reader_feed(
-        words: *mut u64,
-        piece: *const u8,
-        piece_len: usize,
-        gathering: *mut u8,
-        gathering_len: usize,
-        addresses: *mut u8,
-        addresses_len: usize,
-        output: *mut u8,
-        output_len: usize,
-    ) -> raw::Fed;
-    fn base_mrz_judge(
-        quarters: *const u64,
-        quarters_len: usize,
-        marks: *const u8,
-        marks_len: usize,
-        streams: u64,
-        limit: u64,
-        frame: *const u8,
-        frame_len: usize,
-    ) -> Judged;
-    fn base_mrz_write_capsule(
-        quarters: *const u64,
-        quarters_len: usize,
-        marks: *const u8,
-        marks_len: usize,
-        id: u64,
-        payload: *const u8,
-        payload_len: usize,
-        out: *mut u8,
-        out_len: usize,
-        place: u64,
-    ) -> raw::Written;
-    fn base_mrz_write_frame(
-        quarters: *const u64,
-        quarters_len: usize,
-        marks: *const u8,
-        marks_len: usize,
-        id: u64,
-        ours: u64,
-        peers: u64,
-        path: u64,
-        payload: *const u8,
-        payload_len: usize,
-        out: *mut u8,
-        out_len: usize,
-        place: u64,
-    ) -> raw::Written;
-}
-
-#[inline]
-pub fn read_varint(bytes: &[u8]) -> Option<(u64, usize)> {
-    let read = unsafe { base_mrz_read_varint(bytes.as_ptr(), bytes.len()) };
-    (read.size != 0).then_some((read.value, read.size as usize))
-}
-
-pub struct Reader {
-    words: [u64; 8],
-}
-
-impl Reader {
-    pub fn open(opening: Opening) -> Result<Reader, Refusal> {
-        let mut words = [0; 8];
-        let role = u64::from(opening.role == Role::Intermediary);
-        let limit = opening.datagram_limit as u64;
-        let (draft, addresses) = (u64::from(opening.draft), u64::from(opening.addresses));
-        let refusal =
-            unsafe { base_mrz_reader_open(words.as_mut_ptr(), role, limit, draft, addresses) };
-        match Refusal::from_number(refusal) {
-            Some(refusal) => Err(refusal),
-            None => Ok(Reader { words }),
+/// Hands the declarations to a macro, behind what is given.
+macro_rules! declared {
+    ($to:ident $($before:tt)*) => {
+        $to! {
+            $($before)*
+            fn mrz_read_varint(bytes: *const u8, bytes_len: usize) -> Varint;
+            fn mrz_reader_open(reader: *mut Reader, opening: Opening) -> u64;
+            fn mrz_reader_feed(
+                reader: *mut Reader, piece: *const u8, piece_len: usize,
+                gathering: *mut u8, gathering_len: usize, addresses: *mut u8, addresses_len: usize,
+                output: *mut u8, output_len: usize
+            ) -> Fed;
+            fn mrz_judge(
+                streams: *const Stream, streams_len: usize, limits: Limits,
+                frame: *const u8, frame_len: usize
+            ) -> Judged;
+            fn mrz_write_capsule(
+                streams: *const Stream, streams_len: usize, stream_id: u64,
+                payload: *const u8, payload_len: usize, out: *mut u8, out_len: usize, place: u64
+            ) -> Written;
+            fn mrz_write_frame(
+                streams: *const Stream, streams_len: usize, stream_id: u64, terms: FrameTerms,
+                payload: *const u8, payload_len: usize, out: *mut u8, out_len: usize, place: u64
+            ) -> Written;
         }
+    };
+}
+
+macro_rules! functions {
+    ($(fn $name:ident($($parameter:ident: $kind:ty),*) -> $answer:ty;)*) => {
+        /// The functions of one archive.
+        #[derive(Clone, Copy)]
+        pub struct Archive {
+            $($name: unsafe extern "C" fn($($kind),*) -> $answer,)*
+        }
+    };
+}
+declared!(functions);
+
+/// The archive whose symbols have this before their names.
+macro_rules! archive {
+    ($prefix:literal $(fn $name:ident($($parameter:ident: $kind:ty),*) -> $answer:ty;)*) => {{
+        extern "C" {
+            $(
+                #[link_name = concat!($prefix, stringify!($name))]
+                fn $name($($parameter: $kind),*) -> $answer;
+            )*
+        }
+        Archive { $($name),* }
+    }};
+}
+
+/// This archive as hosts link it.
+pub const OURS: Archive = declared!(archive "");
+/// This archive and the one before, each function aligned alike.
+#[cfg(base)]
+pub const NOW_AND_BEFORE: [Archive; 2] = [declared!(archive "now_"), declared!(archive "base_")];
+/// None is linked, and nothing is measured beside it.
+#[cfg(not(base))]
+pub const NOW_AND_BEFORE: [Archive; 2] = [OURS; 2];
+
+/// How the archive of an earlier revision is named.
+pub const BEFORE: &str = "the archive before";
+
+/// Where the writers write.
+pub const PLACE: u64 = 3;
+
+pub const TERMS: FrameTerms = FrameTerms {
+    our_setting: 1,
+    peer_setting: 1,
+    path_size: 65_535,
+};
+
+impl Archive {
+    #[inline(always)]
+    pub fn read_varint(&self, bytes: &[u8]) -> Varint {
+        unsafe { (self.mrz_read_varint)(bytes.as_ptr(), bytes.len()) }
     }
 
-    #[inline]
-    pub fn feed(&mut self, piece: &[u8], buffers: &mut Buffers) -> Result<Fed, Refusal> {
-        let fed = unsafe {
-            base_mrz_reader_feed(
-                self.words.as_mut_ptr(),
+    pub fn open(&self, reader: &mut Reader, opening: Opening) -> u64 {
+        unsafe { (self.mrz_reader_open)(reader, opening) }
+    }
+
+    #[inline(always)]
+    pub fn feed(&self, reader: &mut Reader, piece: &[u8], buffers: &mut Buffers) -> Fed {
+        unsafe {
+            (self.mrz_reader_feed)(
+                reader,
                 piece.as_ptr(),
                 piece.len(),
                 buffers.gathering.as_mut_ptr(),
@@ -102,100 +101,40 @@ impl Reader {
                 buffers.output.as_mut_ptr(),
                 buffers.output.len(),
             )
-        };
-        fed.try_into()
-    }
-}
-
-/// What its judging answers; the rule alone is looked at.
-#[repr(C)]
-#[allow(dead_code)]
-struct Judged {
-    refusal: u64,
-    rule: u64,
-    place: u64,
-    start: u64,
-    length: u64,
-    error: u64,
-}
-
-/// A table in its two rows.
-pub struct Rows {
-    quarters: Vec<u64>,
-    marks: Vec<u8>,
-}
-
-impl Rows {
-    /// The same table. Its marks have the bits of the flags.
-    pub fn new(streams: &[Stream]) -> Rows {
-        Rows {
-            quarters: streams.iter().map(|stream| stream.quarter).collect(),
-            marks: streams.iter().map(|stream| stream.flags as u8).collect(),
         }
     }
 
-    #[inline]
-    pub fn judge(&self, streams: u64, limit: u64, frame: &[u8]) -> u64 {
-        let judged = unsafe {
-            base_mrz_judge(
-                self.quarters.as_ptr(),
-                self.quarters.len(),
-                self.marks.as_ptr(),
-                self.marks.len(),
-                streams,
-                limit,
-                frame.as_ptr(),
-                frame.len(),
-            )
-        };
-        judged.rule
+    #[inline(always)]
+    pub fn judge(&self, streams: &[Stream], limits: Limits, frame: &[u8]) -> Judged {
+        let (records, count) = (streams.as_ptr(), streams.len());
+        unsafe { (self.mrz_judge)(records, count, limits, frame.as_ptr(), frame.len()) }
     }
 
-    #[inline]
-    pub fn write_capsule(&self, id: u64, payload: &[u8], out: &mut [u8], place: u64) -> u64 {
-        let written = unsafe {
-            base_mrz_write_capsule(
-                self.quarters.as_ptr(),
-                self.quarters.len(),
-                self.marks.as_ptr(),
-                self.marks.len(),
-                id,
-                payload.as_ptr(),
-                payload.len(),
-                out.as_mut_ptr(),
-                out.len(),
-                place,
-            )
-        };
-        written.written
-    }
-
-    #[inline]
-    pub fn write_frame(
+    #[inline(always)]
+    pub fn write_capsule(
         &self,
+        streams: &[Stream],
         id: u64,
-        path: u64,
         payload: &[u8],
         out: &mut [u8],
-        place: u64,
-    ) -> u64 {
-        let written = unsafe {
-            base_mrz_write_frame(
-                self.quarters.as_ptr(),
-                self.quarters.len(),
-                self.marks.as_ptr(),
-                self.marks.len(),
-                id,
-                1,
-                1,
-                path,
-                payload.as_ptr(),
-                payload.len(),
-                out.as_mut_ptr(),
-                out.len(),
-                place,
-            )
-        };
-        written.written
+    ) -> Written {
+        let (records, count) = (streams.as_ptr(), streams.len());
+        let (bytes, length) = (payload.as_ptr(), payload.len());
+        let (to, room) = (out.as_mut_ptr(), out.len());
+        unsafe { (self.mrz_write_capsule)(records, count, id, bytes, length, to, room, PLACE) }
+    }
+
+    #[inline(always)]
+    pub fn write_frame(
+        &self,
+        streams: &[Stream],
+        id: u64,
+        payload: &[u8],
+        out: &mut [u8],
+    ) -> Written {
+        let (records, count) = (streams.as_ptr(), streams.len());
+        let (bytes, length) = (payload.as_ptr(), payload.len());
+        let (to, room) = (out.as_mut_ptr(), out.len());
+        unsafe { (self.mrz_write_frame)(records, count, id, TERMS, bytes, length, to, room, PLACE) }
     }
 }

@@ -1,79 +1,142 @@
 //! Payloads judged, capsules and frames written.
 
+use std::cell::RefCell;
 use std::hint::black_box;
 
 use independent::judge::judge;
 use independent::table::Record;
 use independent::writers::{self, Sending};
-use independent::Random;
-use maruzhenu::raw::{self, FrameTerms, Limits, Stream};
+use independent::{varint, Random};
+use maruzhenu::raw::{stream_id_of, Limits, Stream};
 
-#[cfg(base)]
-use crate::base::Rows;
+use crate::base::{Archive, BEFORE, NOW_AND_BEFORE, OURS, PLACE, TERMS};
 use crate::measure::{race, Work};
 use crate::Row;
 
-const PLAIN: &str = "plain Rust, same checks";
-pub const BASE: &str = "the archive before";
+pub const PLAIN: &str = "plain Rust, same checks";
 
 const LIMITS: Limits = Limits {
     stream_limit: 1 << 60,
     datagram_limit: 1_200,
 };
 
-const TERMS: FrameTerms = FrameTerms {
-    our_setting: 1,
-    peer_setting: 1,
-    path_size: 65_535,
-};
-
-pub fn row(work: String, aim: Option<f64>, ours: Work, theirs: Work) -> Row {
-    let mut rows = beside(work, aim, vec![ours, theirs]);
-    rows.remove(0)
-}
-
-/// A row beside plain Rust, and one beside the archive before where it is linked. The sides come in this order after ours.
-fn beside(work: String, aim: Option<f64>, mut sides: Vec<Work>) -> Vec<Row> {
+pub fn row(work: String, peer: &'static str, aim: Option<f64>, mut sides: [Work; 2]) -> Row {
     let times = race(&mut sides);
-    let peers = [(PLAIN, aim), (BASE, None)];
-    let row = |(&theirs, (peer, aim))| Row {
-        work: work.clone(),
+    Row {
+        work,
         peer,
         ours: times[0],
-        theirs,
+        theirs: times[1],
         unit: "call",
         aim,
-    };
-    times[1..].iter().zip(peers).map(row).collect()
+    }
 }
 
-/// The same table for each side.
-struct Tables {
-    ours: Vec<Stream>,
-    plain: Vec<Record>,
-    #[cfg(base)]
-    base: Rows,
+enum Kind {
+    /// The bytes are a frame for the last record that is used, or for no stream.
+    Judge,
+    /// The bytes are a payload.
+    Capsule,
+    Frame,
 }
 
-impl Tables {
-    /// 64 places, the first of them used for these quarters, open and with semantics.
-    fn new(quarters: &[u64]) -> Tables {
-        let flags = Stream::USED | Stream::RECEIVE | Stream::SEND | Stream::SEMANTICS;
-        let mut ours = vec![Stream::BLANK; 64];
-        for (stream, &quarter) in ours.iter_mut().zip(quarters) {
-            *stream = Stream { quarter, flags };
+/// A call over a table.
+struct Call {
+    name: String,
+    kind: Kind,
+    streams: Vec<Stream>,
+    stream_id: u64,
+    length: usize,
+    /// The bytes, and the output of all sides. They are half a page apart, but for whole pages: a copy between places
+    /// that are nearly the same in their pages takes many times as long.
+    memory: RefCell<Vec<u8>>,
+}
+
+impl Call {
+    fn new(name: String, kind: Kind, quarters: &[u64], bytes: &[u8]) -> Call {
+        let mut memory = vec![0; 2 * Call::output(bytes.len())];
+        memory[..bytes.len()].copy_from_slice(bytes);
+        Call {
+            name,
+            kind,
+            streams: table(quarters),
+            stream_id: stream_id_of(quarters.last().map_or(0, |&last| last)).stream_id,
+            length: bytes.len(),
+            memory: RefCell::new(memory),
         }
+    }
+
+    /// Where the output starts.
+    fn output(length: usize) -> usize {
+        length.next_multiple_of(4_096) + 2_048
+    }
+
+    /// A side, from a function of the bytes and the output.
+    fn side<'a>(&'a self, call: impl Fn(&[u8], &mut [u8]) -> u64 + 'a) -> Work<'a> {
+        Box::new(move || {
+            let memory = &mut *self.memory.borrow_mut();
+            let (bytes, out) = memory.split_at_mut(Call::output(self.length));
+            call(black_box(&bytes[..self.length]), out)
+        })
+    }
+
+    fn archive(&self, of: Archive) -> Work<'_> {
+        let (streams, id) = (&self.streams[..], self.stream_id);
+        let streams = move || black_box(streams);
+        match self.kind {
+            Kind::Judge => self.side(move |frame, _| of.judge(streams(), LIMITS, frame).rule),
+            Kind::Capsule => self.side(move |payload, out| {
+                let written = of.write_capsule(streams(), id, payload, out);
+                written.written
+            }),
+            Kind::Frame => self.side(move |payload, out| {
+                let written = of.write_frame(streams(), id, payload, out);
+                written.written
+            }),
+        }
+    }
+
+    fn plain(&self) -> Work<'_> {
         let record = |stream: &Stream| Record {
             quarter: stream.quarter,
             flags: stream.flags,
         };
-        Tables {
-            plain: ours.iter().map(record).collect(),
-            #[cfg(base)]
-            base: Rows::new(&ours),
-            ours,
+        let records: Vec<Record> = self.streams.iter().map(record).collect();
+        let id = self.stream_id;
+        let sending = Sending {
+            id,
+            ours: TERMS.our_setting,
+            peers: TERMS.peer_setting,
+            path: TERMS.path_size,
+        };
+        let done = "it is not refused";
+        match self.kind {
+            Kind::Judge => self.side(move |frame, _| {
+                let (streams, length) = (LIMITS.stream_limit, LIMITS.datagram_limit);
+                let verdict = judge(black_box(&records), streams, length, frame);
+                verdict.expect(done).rule()
+            }),
+            Kind::Capsule => self.side(move |payload, out| {
+                let written = writers::write_capsule(black_box(&records), id, payload, out, PLACE);
+                written.expect(done) as u64
+            }),
+            Kind::Frame => self.side(move |payload, out| {
+                let written =
+                    writers::write_frame(black_box(&records), sending, payload, out, PLACE);
+                written.expect(done) as u64
+            }),
         }
     }
+}
+
+/// 64 places, the first of them used for these quarters, open and with semantics.
+fn table(quarters: &[u64]) -> Vec<Stream> {
+    let flags = Stream::USED | Stream::RECEIVE | Stream::SEND | Stream::SEMANTICS;
+    let mut streams = vec![Stream::BLANK; 64];
+    for (stream, &quarter) in streams.iter_mut().zip(quarters) {
+        *stream = Stream { quarter, flags };
+    }
+    streams
 }
 
 /// So many quarters, in the order of new streams or at random, and how they are named.
@@ -90,112 +153,49 @@ fn quarters(used: usize) -> Vec<(&'static str, Vec<u64>)> {
     ]
 }
 
-pub fn rows() -> Vec<Row> {
-    let mut rows = Vec::new();
+fn calls() -> Vec<Call> {
+    let (mut judging, mut writing) = (Vec::new(), Vec::new());
     for used in [0, 8, 64] {
         for (order, quarters) in quarters(used) {
-            let tables = Tables::new(&quarters);
-            let table = format!("{used} of 64 records used{order}");
-            rows.extend(judging(&table, &tables, quarters.last().copied()));
-        }
-    }
-    for used in [8, 64] {
-        for (order, quarters) in quarters(used) {
-            let tables = Tables::new(&quarters);
-            let table = format!("{used} of 64 records used{order}");
-            let id = 4 * quarters.last().expect("some are used");
+            let call = |work: String, kind, bytes: &[u8]| {
+                let name = format!("{work}, {used} of 64 records used{order}");
+                Call::new(name, kind, &quarters, bytes)
+            };
+            let mut frame = vec![0; 108];
+            let quarter = quarters.last().map_or(3, |&last| last);
+            let size = varint::write(quarter, &mut frame, 0).expect("it fits");
+            judging.push(call("judging".into(), Kind::Judge, &frame[..size + 100]));
+            if used == 0 {
+                continue;
+            }
             for length in [0, 100, 1_200, 16_000] {
-                let payload = &vec![0x55; length][..];
-                rows.extend(capsule(&table, &tables, id, payload));
-                rows.extend(frame(&table, &tables, id, payload));
+                let payload = &vec![0x55; length];
+                for (work, kind) in [("capsule", Kind::Capsule), ("frame", Kind::Frame)] {
+                    writing.push(call(format!("{work} of {length} bytes"), kind, payload));
+                }
             }
         }
     }
-    rows
+    judging.into_iter().chain(writing).collect()
 }
 
-/// A frame for the last record that is used, or for no stream.
-fn judging(table: &str, tables: &Tables, quarter: Option<u64>) -> Vec<Row> {
-    let mut frame = vec![0; 108];
-    let written = independent::varint::write(quarter.unwrap_or(3), &mut frame, 0);
-    let frame = &frame[..written.expect("it fits") + 100];
-    let ours: Work = Box::new(|| {
-        let (table, frame) = black_box((&tables.ours[..], frame));
-        raw::judge(table, LIMITS, frame).rule
-    });
-    let theirs: Work = Box::new(|| {
-        let (table, frame) = black_box((&tables.plain[..], frame));
-        let verdict = judge(table, LIMITS.stream_limit, LIMITS.datagram_limit, frame);
-        verdict.expect("it is not refused").rule()
-    });
-    let sides = vec![
-        ours,
-        theirs,
-        #[cfg(base)]
-        Box::new(|| {
-            let (table, frame) = black_box((&tables.base, frame));
-            table.judge(LIMITS.stream_limit, LIMITS.datagram_limit, frame)
-        }),
-    ];
-    beside(format!("judging, {table}"), Some(1.2), sides)
-}
-
-fn capsule(table: &str, tables: &Tables, id: u64, payload: &[u8]) -> Vec<Row> {
-    let room = payload.len() + 16;
-    let (mut out, mut other) = (vec![0; room], vec![0; room]);
-    #[cfg(base)]
-    let mut third = vec![0; room];
-    let ours: Work = Box::new(|| {
-        let (table, payload) = black_box((&tables.ours[..], payload));
-        raw::write_capsule(table, id, payload, &mut out, 3).written
-    });
-    let theirs: Work = Box::new(|| {
-        let (table, payload) = black_box((&tables.plain[..], payload));
-        let written = writers::write_capsule(table, id, payload, &mut other, 3);
-        written.expect("it is not refused") as u64
-    });
-    let sides = vec![
-        ours,
-        theirs,
-        #[cfg(base)]
-        Box::new(|| {
-            let (table, payload) = black_box((&tables.base, payload));
-            table.write_capsule(id, payload, &mut third, 3)
-        }),
-    ];
-    let work = format!("capsule of {} bytes, {table}", payload.len());
-    beside(work, Some(1.1), sides)
-}
-
-fn frame(table: &str, tables: &Tables, id: u64, payload: &[u8]) -> Vec<Row> {
-    let room = payload.len() + 16;
-    let (mut out, mut other) = (vec![0; room], vec![0; room]);
-    #[cfg(base)]
-    let mut third = vec![0; room];
-    let sending = Sending {
-        id,
-        ours: TERMS.our_setting,
-        peers: TERMS.peer_setting,
-        path: TERMS.path_size,
+pub fn rows() -> Vec<Row> {
+    let row = |call: Call| {
+        let aim = match call.kind {
+            Kind::Judge => 1.2,
+            Kind::Capsule | Kind::Frame => 1.1,
+        };
+        let sides = [call.archive(OURS), call.plain()];
+        row(call.name.clone(), PLAIN, Some(aim), sides)
     };
-    let ours: Work = Box::new(|| {
-        let (table, payload) = black_box((&tables.ours[..], payload));
-        raw::write_frame(table, id, TERMS, payload, &mut out, 3).written
-    });
-    let theirs: Work = Box::new(|| {
-        let (table, payload) = black_box((&tables.plain[..], payload));
-        let written = writers::write_frame(table, sending, payload, &mut other, 3);
-        written.expect("it is not refused") as u64
-    });
-    let sides = vec![
-        ours,
-        theirs,
-        #[cfg(base)]
-        Box::new(|| {
-            let (table, payload) = black_box((&tables.base, payload));
-            table.write_frame(id, TERMS.path_size, payload, &mut third, 3)
-        }),
-    ];
-    let work = format!("frame of {} bytes, {table}", payload.len());
-    beside(work, Some(1.1), sides)
+    calls().into_iter().map(row).collect()
+}
+
+/// Beside the archive before.
+pub fn rows_before() -> Vec<Row> {
+    let row = |call: Call| {
+        let sides = NOW_AND_BEFORE.map(|of| call.archive(of));
+        row(call.name.clone(), BEFORE, None, sides)
+    };
+    calls().into_iter().map(row).collect()
 }

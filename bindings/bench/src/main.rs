@@ -2,7 +2,6 @@
 //! draws nanoseconds per byte over the length of values.
 
 mod addresses;
-#[cfg(base)]
 mod base;
 mod calls;
 mod feeding;
@@ -14,7 +13,7 @@ use std::env;
 use std::fs;
 use std::process::ExitCode;
 
-use feeding::Role;
+use feeding::{Cell, Role};
 
 /// A row of the table.
 pub struct Row {
@@ -43,79 +42,44 @@ impl Row {
     }
 }
 
-fn head() {
+fn table(title: &str, rows: Vec<Row>) {
+    println!("## {title}\n");
     println!("| Work | Beside | Ours, ns | Other, ns | for | Ratio | Aim | |");
     println!("|---|---|---|---|---|---|---|---|");
+    rows.iter().for_each(Row::print);
+    println!();
 }
 
-fn feeding() {
-    head();
-    let (pieces, lengths) = (
-        &[64, 1_200, 16_384][..],
-        &[0, 4, 32, 100, 1_000, 1_200, 16_000][..],
-    );
-    for (role, name, pieces, lengths) in [
-        (
-            Role::Endpoint,
-            "endpoint, DATAGRAM delivered",
-            pieces,
-            lengths,
-        ),
-        (
-            Role::Intermediary,
-            "intermediary, unknown capsule passed",
-            pieces,
-            lengths,
-        ),
-        (
-            Role::OptedIn,
-            "endpoint that takes address capsules, DATAGRAM delivered",
-            &[1_200],
-            &[0, 4, 32, 100, 1_000],
-        ),
-        (
-            Role::Addresses,
-            "endpoint, ADDRESS_ASSIGN delivered",
-            &[64, 1_200],
-            &[8, 104, 1_024],
-        ),
+/// The table beside the archive of an earlier revision, and the ratios of its parts.
+fn table_before(revision: &str) {
+    println!("## Beside the archive of {revision}\n");
+    println!("| Work | Now, ns | Before, ns | for | Ratio |");
+    println!("|---|---|---|---|---|");
+    let mut parts = Vec::new();
+    for (part, rows) in [
+        ("feeding", feeding::rows_before()),
+        ("varints", varints::rows_before()),
+        ("judging, writing", calls::rows_before()),
     ] {
-        for &piece in pieces {
-            for &length in lengths {
-                let times = feeding::measure(role, length, piece);
-                let row = |peer, theirs, aim| Row {
-                    work: format!("{name}: values of {length}, pieces of {piece}"),
-                    peer,
-                    ours: times.ours * 1_024.0 / times.bytes,
-                    theirs: theirs * 1_024.0 / times.bytes,
-                    unit: "KiB of stream",
-                    aim,
-                };
-                // Readers that take address capsules have no aim.
-                let aim = matches!(role, Role::Endpoint | Role::Intermediary).then_some(1.0);
-                row("independent Rust reader", times.inlined, aim).print();
-                if piece == 16_384 {
-                    row("the same, not inlined", times.called, None).print();
-                }
-                if length == 16_000 {
-                    row("bare copy of the same bytes", times.copy, Some(1.15)).print();
-                }
-                if let Some(base) = times.base {
-                    row(calls::BASE, base, None).print();
-                }
-            }
+        let mut ratios: Vec<f64> = Vec::new();
+        for row in rows {
+            let ratio = row.ours / row.theirs;
+            println!(
+                "| {} | {:.2} | {:.2} | {} | {ratio:.2} |",
+                row.work, row.ours, row.theirs, row.unit
+            );
+            ratios.push(ratio);
         }
+        ratios.sort_by(f64::total_cmp);
+        let logarithms: f64 = ratios.iter().map(|ratio| ratio.ln()).sum();
+        let mean = (logarithms / ratios.len() as f64).exp();
+        let (least, most) = (ratios[0], ratios[ratios.len() - 1]);
+        let count = ratios.len();
+        parts.push(format!(
+            "{part}: {least:.2} to {most:.2}, {mean:.2} in the geometric mean of {count}"
+        ));
     }
-    println!();
-}
-
-fn rows(title: &str, rows: Vec<Row>) {
-    println!("## {title}\n");
-    head();
-    for row in rows {
-        row.print();
-    }
-    println!();
+    println!("\nNow divided by before, {}.\n", parts.join("; "));
 }
 
 fn plot(path: &str) -> std::io::Result<()> {
@@ -131,11 +95,12 @@ fn plot(path: &str) -> std::io::Result<()> {
     ];
     for length in lengths {
         for (first, role) in [(0, Role::Endpoint), (2, Role::Intermediary)] {
-            let times = feeding::measure(role, length, 16_384);
-            let mut push = |line: usize, time: f64| {
-                let point = (length as f64, time / times.bytes);
-                lines[line].points.push(point);
-            };
+            let times = feeding::measure(Cell {
+                role,
+                length,
+                piece: 16_384,
+            });
+            let mut push = |line: usize, time| lines[line].points.push((length as f64, time));
             push(first, times.ours);
             push(first + 1, times.inlined);
             if role == Role::Endpoint {
@@ -155,11 +120,13 @@ fn main() -> ExitCode {
     }
     let rounds = measure::ROUNDS;
     println!("Each figure is the least of {rounds} rounds in which all sides have their turn. Buffers are not cleared between passes.\n");
-    println!("## Feeding\n");
-    feeding();
-    rows("Reading varints", varints::rows());
-    rows("Judging, writing", calls::rows());
-    rows("Address capsules", addresses::rows());
+    table("Feeding", feeding::rows());
+    table("Reading varints", varints::rows());
+    table("Judging, writing", calls::rows());
+    table("Address capsules", addresses::rows());
+    if cfg!(base) {
+        table_before(&env::var("MARUZHENU_BASE_NAME").unwrap_or_default());
+    }
     if let Some(path) = arguments.first() {
         if let Err(error) = plot(path) {
             eprintln!("bench: {path}: {error}");

@@ -3,11 +3,22 @@
 use independent::captures::{push_number, Form};
 use independent::Random;
 
+use crate::base::{Archive, BEFORE, NOW_AND_BEFORE};
 use crate::measure::{race, Work};
 use crate::Row;
 
 /// So many that a processor cannot learn the order of their sizes.
 const COUNT: usize = 1_000_000;
+
+/// The buffers: how they are named, and the bounds of their numbers.
+const BUFFERS: [(&str, &[u64]); 3] = [
+    ("one byte", &[64]),
+    ("two bytes", &[16_384]),
+    (
+        "a random mix of the four sizes",
+        &[64, 16_384, 1 << 30, 1 << 62],
+    ),
+];
 
 /// A buffer of numbers, each below a bound of the list.
 fn buffer(bounds: &[u64]) -> Vec<u8> {
@@ -24,32 +35,30 @@ fn buffer(bounds: &[u64]) -> Vec<u8> {
     bytes
 }
 
-fn ours(bytes: &[u8]) -> u64 {
+/// The sum of all numbers of a buffer, by a function that reads the first one.
+#[inline(always)]
+fn sum(bytes: &[u8], read: impl Fn(&[u8]) -> Option<(u64, usize)>) -> u64 {
     let (mut sum, mut place) = (0u64, 0);
-    while let Some((value, size)) = maruzhenu::varint::read(&bytes[place..]) {
+    while let Some((value, size)) = read(&bytes[place..]) {
         sum = sum.wrapping_add(value);
         place += size;
     }
     sum
+}
+
+fn ours(bytes: &[u8]) -> u64 {
+    sum(bytes, maruzhenu::varint::read)
 }
 
 fn plain(bytes: &[u8]) -> u64 {
-    let (mut sum, mut place) = (0u64, 0);
-    while let Some((value, size)) = independent::varint::read(&bytes[place..]) {
-        sum = sum.wrapping_add(value);
-        place += size;
-    }
-    sum
+    sum(bytes, independent::varint::read)
 }
 
-#[cfg(base)]
-fn base(bytes: &[u8]) -> u64 {
-    let (mut sum, mut place) = (0u64, 0);
-    while let Some((value, size)) = crate::base::read_varint(&bytes[place..]) {
-        sum = sum.wrapping_add(value);
-        place += size;
-    }
-    sum
+fn archive(bytes: &[u8], archive: Archive) -> u64 {
+    sum(bytes, |bytes| {
+        let read = archive.read_varint(bytes);
+        (read.size != 0).then_some((read.value, read.size as usize))
+    })
 }
 
 #[cfg(nghttp3)]
@@ -79,25 +88,30 @@ fn quinn_called(bytes: &[u8]) -> u64 {
     extern "C" {
         fn quinn_peer_read(bytes: *const u8, length: usize) -> Read;
     }
-    let (mut sum, mut rest) = (0u64, bytes);
-    loop {
-        let read = unsafe { quinn_peer_read(rest.as_ptr(), rest.len()) };
-        if read.size == 0 {
-            return sum;
-        }
-        sum = sum.wrapping_add(read.value);
-        rest = &rest[read.size..];
-    }
+    sum(bytes, |bytes| {
+        let read = unsafe { quinn_peer_read(bytes.as_ptr(), bytes.len()) };
+        (read.size != 0).then_some((read.value, read.size))
+    })
 }
 
 /// A reader of all numbers of a buffer, with its name and the ratio aimed at.
 type Peer = (&'static str, fn(&[u8]) -> u64, Option<f64>);
 
+fn row(name: &str, peer: &'static str, aim: Option<f64>, mut sides: [Work; 2]) -> Row {
+    let times = race(&mut sides);
+    Row {
+        work: format!("varints of {name}"),
+        peer,
+        ours: times[0] / COUNT as f64,
+        theirs: times[1] / COUNT as f64,
+        unit: "varint",
+        aim,
+    }
+}
+
 pub fn rows() -> Vec<Row> {
     let peers: &[Peer] = &[
         ("independent, plain Rust, inlined", plain, None),
-        #[cfg(base)]
-        (crate::calls::BASE, base, None),
         #[cfg(nghttp3)]
         ("nghttp3", nghttp3, Some(0.8)),
         #[cfg(quinn)]
@@ -106,28 +120,22 @@ pub fn rows() -> Vec<Row> {
         ("quinn-proto, a call each", quinn_called, Some(0.8)),
     ];
     let mut rows = Vec::new();
-    for (name, bounds) in [
-        ("one byte", &[64][..]),
-        ("two bytes", &[16_384]),
-        (
-            "a random mix of the four sizes",
-            &[64, 16_384, 1 << 30, 1 << 62],
-        ),
-    ] {
+    for (name, bounds) in BUFFERS {
         let bytes = &buffer(bounds)[..];
         for &(peer, theirs, aim) in peers {
-            let ours: Work = Box::new(|| ours(bytes));
-            let theirs: Work = Box::new(|| theirs(bytes));
-            let times = race(&mut [ours, theirs]);
-            rows.push(Row {
-                work: format!("varints of {name}"),
-                peer,
-                ours: times[0] / COUNT as f64,
-                theirs: times[1] / COUNT as f64,
-                unit: "varint",
-                aim,
-            });
+            let sides: [Work; 2] = [Box::new(|| ours(bytes)), Box::new(|| theirs(bytes))];
+            rows.push(row(name, peer, aim, sides));
         }
     }
     rows
+}
+
+/// Beside the archive before.
+pub fn rows_before() -> Vec<Row> {
+    let row = |(name, bounds)| {
+        let bytes = &buffer(bounds)[..];
+        let side = |of| -> Work { Box::new(move || archive(bytes, of)) };
+        row(name, BEFORE, None, NOW_AND_BEFORE.map(side))
+    };
+    BUFFERS.into_iter().map(row).collect()
 }

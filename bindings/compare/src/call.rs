@@ -2,7 +2,7 @@
 
 use std::fmt;
 
-use maruzhenu::raw::{FrameTerms, Limits, Opening, Stream};
+use maruzhenu::raw::{Address, FrameTerms, Limits, Opening, Route, Stream};
 
 use crate::lent::{hex, Lent, LentReader};
 
@@ -15,6 +15,35 @@ pub fn fields<const COUNT: usize>(fields: [u64; COUNT]) -> Answer {
     let mut answer = [0; 9];
     answer[..COUNT].copy_from_slice(&fields);
     answer
+}
+
+/// An answer with these fields and then those of an entry.
+pub fn with_entry([found, next]: [u64; 2], entry: [u64; 6]) -> Answer {
+    let mut answer = fields([found, next]);
+    answer[2..8].copy_from_slice(&entry);
+    answer
+}
+
+/// The fields of an address of the C interface.
+pub fn address_numbers(address: Address) -> [u64; 6] {
+    let [high, low] = halves(address.address);
+    let (version, prefix) = (address.ip_version.into(), address.prefix_length.into());
+    let reserved = address.reserved.iter();
+    let reserved = reserved.fold(0, |number, &byte| number << 8 | u64::from(byte));
+    [address.request_id, version, prefix, high, low, reserved]
+}
+
+/// The fields of a range of the C interface.
+pub fn route_numbers(route: Route) -> [u64; 6] {
+    let ([start, start_low], [end, end_low]) = (halves(route.start), halves(route.end));
+    let (version, protocol) = (route.ip_version.into(), route.ip_protocol.into());
+    [version, protocol, start, start_low, end, end_low]
+}
+
+/// The bytes of an address as two numbers.
+fn halves(bytes: [u8; 16]) -> [u64; 2] {
+    let number = u128::from_be_bytes(bytes);
+    [(number >> 64) as u64, number as u64]
 }
 
 /// A stream table, to be lent.

@@ -11,7 +11,7 @@ use independent::{varint, Closing, Reader, Refusal, Report, Role};
 
 use maruzhenu::raw::{FrameTerms, Stream};
 
-use crate::call::{fields, Answer, Call};
+use crate::call::{fields, with_entry, Answer, Call};
 
 /// The reader as the calls before have left it, and the bytes that it has seen where its opening was a call too.
 #[derive(Default)]
@@ -405,10 +405,7 @@ fn found<T>(found: Found<T>, at: u64, entry: impl FnOnce(T) -> [u64; 6]) -> Answ
     match found {
         Found::Nothing => fields([0, at]),
         Found::Malformed => fields([2, at]),
-        Found::Entry(found, next) => {
-            let [a, b, c, d, e, f] = entry(found);
-            fields([1, next, a, b, c, d, e, f])
-        }
+        Found::Entry(found, next) => with_entry([1, next], entry(found)),
     }
 }
 

@@ -9,7 +9,7 @@ use maruzhenu::table::Verdict;
 use maruzhenu::table::{FrameTerms, Judged, Limits, Quarter, Side, SideClosed, StreamId, Table};
 use maruzhenu::{datagram, list, varint, Reader, Refusal};
 
-use crate::call::{fields, Answer, Call};
+use crate::call::{address_numbers, fields, route_numbers, with_entry, Answer, Call};
 use crate::Lent;
 
 /// Makes the call, where the types can say it. What is lent to be written is changed in place.
@@ -96,8 +96,9 @@ pub fn answer(call: &mut Call) -> Option<Answer> {
         }
         Call::StreamFind { table, id } => {
             let table = Table::new(table.get());
-            whole(table.find(StreamId(*id)), |place| {
-                let quarter = *id / 4;
+            let id = StreamId(*id);
+            whole(table.find(id), |place| {
+                let Quarter(quarter) = id.quarter().expect("its ID is a request stream's");
                 let named = table.get(place).is_some_and(|one| one.quarter == quarter);
                 let mut same = table.iter().filter(|(_, one)| one.quarter == quarter);
                 let listed = same.next().map(|(place, _)| place) == Some(place);
@@ -181,58 +182,34 @@ pub fn answer(call: &mut Call) -> Option<Answer> {
         }
         Call::AddressNext { value, at } => {
             let value = value.0.get(usize::try_from(*at).ok()?..)?;
-            next(*at, addresses::addresses(value), |entry| {
-                let [high, low] = halves(entry.address);
-                let reserved = entry.reserved.iter();
-                [
-                    entry.request_id,
-                    entry.ip_version.into(),
-                    entry.prefix_length.into(),
-                    high,
-                    low,
-                    reserved.fold(0, |number, &byte| number << 8 | u64::from(byte)),
-                ]
-            })
+            next(*at, addresses::addresses(value), address_numbers)
         }
         Call::RouteNext { value, at } => {
             let value = value.0.get(usize::try_from(*at).ok()?..)?;
-            next(*at, addresses::routes(value), |entry| {
-                let ([start, start_low], [end, end_low]) = (halves(entry.start), halves(entry.end));
-                let (version, protocol) = (entry.ip_version.into(), entry.ip_protocol.into());
-                [version, protocol, start, start_low, end, end_low]
-            })
+            next(*at, addresses::routes(value), route_numbers)
         }
         Call::WriteAddressAssign {
             addresses,
             out,
             place,
         } => {
-            let (entries, place) = (address_entries(&addresses.0)?, *place as usize);
-            count(addresses::write_address_assign(
-                &entries,
-                out.get_mut(),
-                place,
-            ))
+            let entries = entries(&addresses.0, 32, address)?;
+            let (out, place) = (out.get_mut(), *place as usize);
+            count(addresses::write_address_assign(&entries, out, place))
         }
         Call::WriteAddressRequest {
             addresses,
             out,
             place,
         } => {
-            let (entries, place) = (address_entries(&addresses.0)?, *place as usize);
-            count(addresses::write_address_request(
-                &entries,
-                out.get_mut(),
-                place,
-            ))
+            let entries = entries(&addresses.0, 32, address)?;
+            let (out, place) = (out.get_mut(), *place as usize);
+            count(addresses::write_address_request(&entries, out, place))
         }
         Call::WriteRouteAdvertisement { routes, out, place } => {
-            let (entries, place) = (route_entries(&routes.0)?, *place as usize);
-            count(addresses::write_route_advertisement(
-                &entries,
-                out.get_mut(),
-                place,
-            ))
+            let entries = entries(&routes.0, 34, route)?;
+            let (out, place) = (out.get_mut(), *place as usize);
+            count(addresses::write_route_advertisement(&entries, out, place))
         }
         Call::SettingError { received, stored } => {
             fields([error_number(http::setting_error(*received, *stored))])
@@ -488,19 +465,10 @@ fn next<T>(at: u64, mut entries: Entries<'_, T>, numbers: impl FnOnce(T) -> [u64
     let entry = entries.next();
     let after = at + (all - entries.rest().len()) as u64;
     match entry {
-        Some(entry) => {
-            let [a, b, c, d, e, f] = numbers(entry);
-            fields([1, after, a, b, c, d, e, f])
-        }
+        Some(entry) => with_entry([1, after], numbers(entry)),
         None if entries.rest().is_empty() => fields([0, after]),
         None => fields([2, after]),
     }
-}
-
-/// The bytes of an address as two numbers.
-fn halves(bytes: [u8; 16]) -> [u64; 2] {
-    let number = u128::from_be_bytes(bytes);
-    [(number >> 64) as u64, number as u64]
 }
 
 /// The part of an entry from a place on.
@@ -509,28 +477,28 @@ fn part<const SIZE: usize>(entry: &[u8], place: usize) -> [u8; SIZE] {
     part.expect("it has so many bytes")
 }
 
-/// Entries from their bytes, where these are whole entries.
-fn address_entries(bytes: &[u8]) -> Option<Vec<Address>> {
-    let entries = bytes.chunks_exact(32);
+/// Entries of this size from their bytes, where these are whole entries.
+fn entries<T>(bytes: &[u8], size: usize, entry: fn(&[u8]) -> T) -> Option<Vec<T>> {
+    let entries = bytes.chunks_exact(size);
     let whole = entries.remainder().is_empty();
-    let entry = |entry: &[u8]| Address {
+    whole.then(|| entries.map(entry).collect())
+}
+
+fn address(entry: &[u8]) -> Address {
+    Address {
         request_id: u64::from_le_bytes(part(entry, 0)),
         ip_version: entry[8],
         prefix_length: entry[9],
         address: part(entry, 10),
         reserved: part(entry, 26),
-    };
-    whole.then(|| entries.map(entry).collect())
+    }
 }
 
-fn route_entries(bytes: &[u8]) -> Option<Vec<Route>> {
-    let entries = bytes.chunks_exact(34);
-    let whole = entries.remainder().is_empty();
-    let entry = |entry: &[u8]| Route {
+fn route(entry: &[u8]) -> Route {
+    Route {
         ip_version: entry[0],
         ip_protocol: entry[1],
         start: part(entry, 2),
         end: part(entry, 18),
-    };
-    whole.then(|| entries.map(entry).collect())
+    }
 }

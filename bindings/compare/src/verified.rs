@@ -2,7 +2,7 @@
 
 use maruzhenu::raw;
 
-use crate::call::{fields, Answer, Call};
+use crate::call::{address_numbers, fields, route_numbers, with_entry, Answer, Call};
 
 /// Makes the call. What is lent to be written is changed in place.
 pub fn answer(call: &mut Call) -> Answer {
@@ -154,34 +154,11 @@ pub fn answer(call: &mut Call) -> Answer {
         } => one(raw::address_value_good(*capsule_type, &value.0)),
         Call::AddressNext { value, at } => {
             let found = raw::address_next(&value.0, *at);
-            let entry = found.address;
-            let [high, low] = halves(entry.address);
-            let reserved = entry.reserved.iter();
-            fields([
-                found.found,
-                found.next,
-                entry.request_id,
-                entry.ip_version.into(),
-                entry.prefix_length.into(),
-                high,
-                low,
-                reserved.fold(0, |number, &byte| number << 8 | u64::from(byte)),
-            ])
+            with_entry([found.found, found.next], address_numbers(found.address))
         }
         Call::RouteNext { value, at } => {
             let found = raw::route_next(&value.0, *at);
-            let entry = found.route;
-            let ([start, start_low], [end, end_low]) = (halves(entry.start), halves(entry.end));
-            fields([
-                found.found,
-                found.next,
-                entry.ip_version.into(),
-                entry.ip_protocol.into(),
-                start,
-                start_low,
-                end,
-                end_low,
-            ])
+            with_entry([found.found, found.next], route_numbers(found.route))
         }
         Call::WriteAddressAssign {
             addresses,
@@ -225,10 +202,4 @@ fn one(number: u64) -> Answer {
 
 fn written(written: raw::Written) -> Answer {
     fields([written.refusal, written.written])
-}
-
-/// The bytes of an address as two numbers.
-fn halves(bytes: [u8; 16]) -> [u64; 2] {
-    let number = u128::from_be_bytes(bytes);
-    [(number >> 64) as u64, number as u64]
 }

@@ -1,28 +1,7 @@
 -- The writers' answers, and what stands in the output. Assumes nothing.
-use Rattle.walks.proofs.Words.{_≡_, refl, sym, ap, _∙_, _↔_, ℕ, zero, suc, _+_, _*_, _/_, _^_, _≤_, arith, Bool, true, false, cond, _&&_, not, List, [], _∷_, _++_, append-assoc, length, take, drop, getD, length-drop, sets, sets-eq, length-sets, take-at, drop-at, drop-drop, length-take-le, leb, ltb, eqb, le-leb, leb-true, leb-false, lt-ltb, eq-eqb, not-false}
-use Rattle.refusals.specs.declared.Refusal.{Refusal}
-use Rattle.refusals.specs.Numbers.{outputTooShort, numberTooLarge, malformedToWrite}
-use Rattle.wire.specs.declared.varint.Written.{Written}
-use Rattle.wire.specs.declared.varint.Written.the-variants.{Refused, Wrote}
-use Rattle.wire.specs.Bytes.{Bytes, num}
-use Rattle.wire.specs.Writing.{Writing, writing, refuses, writeAt}
-use Rattle.wire.proofs.Numbers.{bytes-take, bytes-drop, num-lt}
-use Rattle.opening.specs.declared.Opening.{Opening}
-use Rattle.opening.specs.declared.Kind.the-variants.{Address}
-use Rattle.opening.specs.declared.Report.the-variants.{AddressDelivered}
-use Rattle.capsule.specs.Grammar.{parts}
-use Rattle.opening.specs.Kinds.{opted, kindOf, extentBy, extentOf, reportBy, reportOf, judged}
-use Rattle.capsule.specs.Book.{reported}
-use Rattle.capsule_laws.proofs.Plain.{by-the-grammar}
-use Rattle.addresses.specs.Addresses.{assign, request, route, isAddressType, longestAddressValue, widthOf, allOf, goodEntry, goodRequests, goodRanges, wellFormed}
-use Rattle.addresses.specs.Encoding.{entryBytes, rangeBytes, valueBytes}
-use Rattle.address_writer.specs.Rows.{entrySize, entryOf, rangeSize, rangeOf, firstOf, allIn, isWhole, entriesIn, rangesIn}
-use Rattle.address_writer.specs.Writer.{capsuleOf, writeValue, idFits, writeAddresses, writeRoutes}
-use Rattle.address_writer.specs.Claims.{alone, Form, entryFits, rangeFits, addresses, ranges, allKnown, isWritable, AddressCapsule, addressAssign, addressRequest, routeAdvertisement, typeOf, valueOf, writeOf, hasLargeId, keepsRules, Answered, RefusedExactly, ReadBackAs, DeliveredTo, Standing, WrittenStands, RefusedNothing}
-use Rattle.address_writer.proofs.Rows.{width-most}
-use Rattle.address_writer.proofs.Writing.{formed-short, formed-largest}
-use Rattle.address_writer.proofs.Capsules.{one-capsule}
-use Rattle.address_writer.proofs.ReadBack.{and-left, and-right, reads-back, writable-exactly}
+use Rattle.walks.proofs.Words.{_≡_, refl, sym, ap, _∙_, _↔_, ℕ, zero, suc, _+_, _*_, _/_, _^_, _≤_, arith, Bool, true, false, cond, _&&_, and-false, not, List, [], _∷_, _++_, append-assoc, length, take, drop, getD, length-drop, sets, sets-eq, length-sets, take-at, drop-at, drop-drop, length-take-le, leb, ltb, eqb, le-leb, leb-true, leb-false, lt-ltb, eq-eqb, not-false}
+use Rattle.address_writer.proofs.Terms.{Refusal, outputTooShort, numberTooLarge, malformedToWrite, Written, Refused, Wrote, Bytes, num, Writing, writing, refuses, writeAt, bytes-take, bytes-drop, num-lt, Opening, Address, AddressDelivered, parts, opted, kindOf, extentBy, extentOf, reportBy, reportOf, judged, reported, by-the-grammar, assign, request, isAddressType, longestAddressValue, widthOf, allOf, goodEntry, goodRequests, goodRanges, wellFormed, entryBytes, valueBytes, entrySize, entryOf, rangeSize, rangeOf, firstOf, allIn, isWhole, entriesIn, rangesIn, idFits, capsuleOf, writeValue, writeAddresses, writeRoutes, alone, Form, entryFits, rangeFits, addresses, ranges, allKnown, isWritable, AddressCapsule, addressAssign, addressRequest, routeAdvertisement, typeOf, valueOf, writeOf, hasLargeId, recordSize, keepsRules, Answered, RefusedExactly, ReadBackAs, DeliveredTo, Standing, WrittenStands, RefusedNothing, address-length, impossible, both}
+use Rattle.address_writer.proofs.{Writing.formed-short, Writing.formed-largest, Capsules.one-capsule, ReadBack.reads-back, ReadBack.writable-exactly}
 
 -- ---- the entries of a row are such as reading gives
 
@@ -34,18 +13,14 @@ module _ {A : Type 0} (size : ℕ) (entry : List ℕ → A) (good : A → Bool) 
       let m : size * suc k ≡ size * k + size = omega arith in
       rw (each s b (omega arith)) (every k (drop size s) (bytes-drop size s b) (omega (arith, length-drop size s)))
 
-both : {A : Type 0} (p q : A → Bool) (es : List A) → allOf p es ≡ true → allOf q es ≡ true → allOf (λ e. p e && q e) es ≡ true
+all-both : {A : Type 0} (p q : A → Bool) (es : List A) → allOf p es ≡ true → allOf q es ≡ true → allOf (λ e. p e && q e) es ≡ true
 unfolding allOf
-both p q [] g h = refl
-both p q (e ∷ es) g h =
-    rw (and-left (p e) (allOf p es) g, and-left (q e) (allOf q es) h) (both p q es (and-right (p e) (allOf p es) g) (and-right (q e) (allOf q es) h))
-
-run-length : (s : List ℕ) (version from : ℕ) → from + 16 ≤ length s → length (take (widthOf version) (drop from s)) ≡ widthOf version
-run-length s version from h = length-take-le (widthOf version) (drop from s) (omega (arith, length-drop from s, width-most version))
+all-both p q [] g h = refl
+all-both p q (e ∷ es) g h = let a = both (p e) (allOf p es) g in let b = both (q e) (allOf q es) h in rw (a .0, b .0) (all-both p q es (a .1) (b .1))
 
 address-fits : (s : List ℕ) → Bytes s → 32 ≤ length s → eqb (length (entryOf s .address)) (widthOf (entryOf s .version)) ≡ true
 unfolding entryOf
-address-fits s b h = eq-eqb _ _ (run-length s _ 10 (omega arith))
+address-fits s b h = eq-eqb _ _ (address-length s 10 _ (omega arith))
 
 range-fits : (s : List ℕ) → Bytes s → 34 ≤ length s → rangeFits (rangeOf s) ≡ true
 unfolding rangeFits rangeOf
@@ -55,12 +30,12 @@ range-fits s b h = rw (below 2 (omega arith), below 18 (omega arith))
     below from l =
         let w : ℕ = widthOf (getD s 0 0) in
         let t : List ℕ = take w (drop from s) in
-        lt-ltb (num t) (256 ^ w) (rw (run-length s (getD s 0 0) from l) at (num-lt t (bytes-take w (drop from s) (bytes-drop from s b))))
+        lt-ltb (num t) (256 ^ w) (rw (address-length s from (getD s 0 0) l) at (num-lt t (bytes-take w (drop from s) (bytes-drop from s b))))
 
 entries-fit : (row : List ℕ) → Bytes row → allOf idFits (entriesIn row) ≡ true → allOf entryFits (entriesIn row) ≡ true
 unfolding entriesIn allIn entryFits
 entries-fit row b g =
-    both idFits (λ e. eqb (length (e .address)) (widthOf (e .version))) (firstOf 32 entryOf (length row / 32) row) g
+    all-both idFits (λ e. eqb (length (e .address)) (widthOf (e .version))) (firstOf 32 entryOf (length row / 32) row) g
     (every 32 entryOf (λ e. eqb (length (e .address)) (widthOf (e .version))) address-fits (length row / 32) row b (omega arith))
 
 ranges-fit : (row : List ℕ) → Bytes row → allOf rangeFits (rangesIn row) ≡ true
@@ -74,10 +49,8 @@ module _ (large fine : Bool) (bytes out : List ℕ) (place : ℕ) where
   Call = cond large (refuses numberTooLarge out) (cond fine (writeAt bytes out place) (refuses malformedToWrite out))
 
 -- by the definition: what reading would not call malformed
-unfoldable isFine : AddressCapsule → List ℕ → Bool
-isFine addressAssign row = isWhole entrySize row && wellFormed assign (valueBytes entryBytes (entriesIn row))
-isFine addressRequest row = isWhole entrySize row && wellFormed request (valueBytes entryBytes (entriesIn row))
-isFine routeAdvertisement row = isWhole rangeSize row && wellFormed route (valueBytes rangeBytes (rangesIn row))
+abbrev isFine : AddressCapsule → List ℕ → Bool
+isFine k row = isWhole (recordSize k) row && wellFormed (typeOf k) (valueOf k row)
 
 swap : {A : Type 0} (b : Bool) (x y : A) → cond b x y ≡ cond (not b) y x
 swap true x y = refl
@@ -93,17 +66,17 @@ module _ (row out : List ℕ) (place : ℕ) where
   addresses-defined t = swap (allOf idFits (entriesIn row)) _ _
 
   defined : (k : AddressCapsule) → writeOf k row out place ≡ Call (hasLargeId k row) (isFine k row) (bytes k) out place
-  unfolding writeOf hasLargeId isFine typeOf valueOf
+  unfolding writeOf hasLargeId typeOf valueOf
   defined addressAssign = addresses-defined assign
   defined addressRequest = addresses-defined request
   defined routeAdvertisement = (unfold writeRoutes writeValue in refl)
 
   module _ (b : Bytes row) where
     fine-kept : (k : AddressCapsule) → hasLargeId k row ≡ false → isFine k row ≡ keepsRules k row
-    unfolding isFine keepsRules hasLargeId
-    fine-kept addressAssign e = ap (λ (x : Bool). isWhole entrySize row && x) (writable-exactly .0 (entriesIn row) (entries-fit row b (not-false _ e)))
-    fine-kept addressRequest e = ap (λ (x : Bool). isWhole entrySize row && x) (writable-exactly .1 (entriesIn row) (entries-fit row b (not-false _ e)))
-    fine-kept routeAdvertisement e = ap (λ (x : Bool). isWhole rangeSize row && x) (writable-exactly .2 (rangesIn row) (ranges-fit row b))
+    unfolding keepsRules hasLargeId typeOf valueOf
+    fine-kept addressAssign e = rw (writable-exactly .0 (entriesIn row) (entries-fit row b (not-false _ e)))
+    fine-kept addressRequest e = rw (writable-exactly .1 (entriesIn row) (entries-fit row b (not-false _ e)))
+    fine-kept routeAdvertisement e = rw (writable-exactly .2 (rangesIn row) (ranges-fit row b))
 
     by-rules : (k : AddressCapsule) → writeOf k row out place ≡ Call (hasLargeId k row) (keepsRules k row) (bytes k) out place
     by-rules k = defined k ∙ go (hasLargeId k row) refl
@@ -115,45 +88,41 @@ module _ (row out : List ℕ) (place : ℕ) where
 -- ---- which answer
 
 code : Written → ℕ
-code (Refused r) = suc (r .0)
+code (Refused r) = r .0
 code (Wrote n) = 0
 
-module _ {P : Type 0} {a x : Written} where
-  same : x ≡ a → P → (x ≡ a) ↔ P
-  same e p = (λ _. p, λ _. e)
+yes : {P Q : Type 0} → P → Q → P ↔ Q
+yes p q = (λ _. q, λ _. p)
 
-  other : {y : Written} → x ≡ y → (code y ≡ code a → ⊥) → (P → ⊥) → (x ≡ a) ↔ P
-  other {y} e n p = (λ d. absurd (n (ap code (sym e ∙ d))), λ q. absurd (p q))
-
-differ : true ≡ false → ⊥
-differ e = let z : _≡_ {A = ℕ} 0 1 = cc in omega arith
+never : {P Q : Type 0} → (P → _≡_ {A = ℕ} 0 1) → (Q → _≡_ {A = ℕ} 0 1) → P ↔ Q
+never p q = (λ x. impossible (p x), λ y. impossible (q y))
 
 module _ (bytes out : List ℕ) (place : ℕ) where
   answered : (large kept room : Bool) → leb (place + length bytes) (length out) ≡ room → Answered large kept bytes out place (Call large kept bytes out place)
   unfolding refuses writeAt code
   answered true kept room e = record {
-    tooLarge = same refl refl;
-    malformed = other refl (λ d. omega arith) (λ p. differ (p .0));
-    tooShort = other refl (λ d. omega arith) (λ p. differ (p .0));
-    written = other refl (λ d. omega arith) (λ p. differ (p .0));
+    tooLarge = yes refl refl;
+    malformed = never (λ d. omega (arith, ap code d)) (λ p. cc);
+    tooShort = never (λ d. omega (arith, ap code d)) (λ p. cc);
+    written = never (λ d. cc) (λ p. cc);
   }
   answered false false room e = record {
-    tooLarge = other refl (λ d. omega arith) (λ p. differ (sym p));
-    malformed = same refl (refl, refl);
-    tooShort = other refl (λ d. omega arith) (λ p. differ (sym (p .1)));
-    written = other refl (λ d. omega arith) (λ p. differ (sym (p .1)));
+    tooLarge = never (λ d. omega (arith, ap code d)) (λ p. cc);
+    malformed = yes refl (refl, refl);
+    tooShort = never (λ d. omega (arith, ap code d)) (λ p. cc);
+    written = never (λ d. cc) (λ p. cc);
   }
   answered false true false e = let l = leb-false (place + length bytes) (length out) e in rw e (record {
-    tooLarge = other refl (λ d. omega arith) (λ p. differ (sym p));
-    malformed = other refl (λ d. omega arith) (λ p. differ (p .1));
-    tooShort = same refl (refl, refl, omega arith);
-    written = other refl (λ d. omega arith) (λ p. omega arith);
+    tooLarge = never (λ d. omega (arith, ap code d)) (λ p. cc);
+    malformed = never (λ d. omega (arith, ap code d)) (λ p. cc);
+    tooShort = yes refl (refl, refl, omega arith);
+    written = never (λ d. cc) (λ p. omega arith);
   })
   answered false true true e = let l = leb-true (place + length bytes) (length out) e in rw e (record {
-    tooLarge = other refl (λ d. omega arith) (λ p. differ (sym p));
-    malformed = other refl (λ d. omega arith) (λ p. differ (p .1));
-    tooShort = other refl (λ d. omega arith) (λ p. omega arith);
-    written = same refl (refl, refl, l);
+    tooLarge = never (λ d. cc) (λ p. cc);
+    malformed = never (λ d. cc) (λ p. cc);
+    tooShort = never (λ d. cc) (λ p. omega arith);
+    written = yes refl (refl, refl, l);
   })
 
 pub refused-exactly : RefusedExactly
@@ -163,29 +132,23 @@ refused-exactly k row out place b =
 -- ---- bytes put in place
 
 module _ (bytes out : List ℕ) (place : ℕ) (h : place + length bytes ≤ length out) where
-  abbrev front : List ℕ
-  front = take place out
-
-  front-length : length front ≡ place
-  front-length = length-take-le place out (omega arith)
-
   abbrev back : List ℕ
   back = drop (place + length bytes) out
 
-  apart : sets out place bytes ≡ front ++ (bytes ++ back)
-  apart = sets-eq bytes out place h ∙ append-assoc front bytes back
+  apart : sets out place bytes ≡ take place out ++ (bytes ++ back)
+  apart = sets-eq bytes out place h ∙ append-assoc (take place out) bytes back
 
   put-front : take place (sets out place bytes) ≡ take place out
-  put-front = ap (take place) apart ∙ take-at front (bytes ++ back) place front-length
+  put-front = rw apart (take-at (take place out) (bytes ++ back) place (length-take-le place out (omega arith)))
 
   behind-front : drop place (sets out place bytes) ≡ bytes ++ back
-  behind-front = ap (drop place) apart ∙ drop-at front (bytes ++ back) place front-length
+  behind-front = rw apart (drop-at (take place out) (bytes ++ back) place (length-take-le place out (omega arith)))
 
   put-bytes : take (length bytes) (drop place (sets out place bytes)) ≡ bytes
-  put-bytes = ap (take (length bytes)) behind-front ∙ take-at bytes back (length bytes) refl
+  put-bytes = rw behind-front (take-at bytes back (length bytes) refl)
 
   put-back : drop (place + length bytes) (sets out place bytes) ≡ drop (place + length bytes) out
-  put-back = sym (drop-drop (length bytes) place (sets out place bytes)) ∙ ap (drop (length bytes)) behind-front ∙ drop-at bytes back (length bytes) refl
+  put-back = sym (drop-drop (length bytes) place (sets out place bytes)) ∙ rw behind-front (drop-at bytes back (length bytes) refl)
 
 -- ---- what stands there afterwards
 
@@ -201,12 +164,6 @@ way false false room bytes out place e = refused malformedToWrite refl
 way false true false bytes out place e = refused outputTooShort (rw e)
 way false true true bytes out place e = wrote refl refl (leb-true (place + length bytes) (length out) e) (rw e)
 
-no-both : {X : Type 0} {r : Refusal} {n : ℕ} {a b : List ℕ} → writing (Refused r) a ≡ writing (Wrote n) b → X
-no-both {r = r} {n = n} e =
-    let d : Refused r ≡ Wrote n = ap (λ (w : Writing). w .answer) e in
-    let z : _≡_ {A = ℕ} 0 1 = cc in
-    absurd (let n : ⊥ = omega arith in n)
-
 way-of : (k : AddressCapsule) (row out : List ℕ) (place : ℕ) → Way (hasLargeId k row) (isFine k row) (capsuleOf (typeOf k) (valueOf k row)) out place (writeOf k row out place)
 way-of k row out place =
     rw (defined row out place k)
@@ -217,23 +174,13 @@ refused-nothing k row out place r after e = go (way-of k row out place)
   where
     go : Way (hasLargeId k row) (isFine k row) (capsuleOf (typeOf k) (valueOf k row)) out place (writeOf k row out place) → after ≡ out
     go (refused q d) = ap (λ (w : Writing). w .output) (sym e ∙ d)
-    go (wrote l f h d) = no-both (sym e ∙ d)
-
-fine-formed : (k : AddressCapsule) (row : List ℕ) → isFine k row ≡ true → wellFormed (typeOf k) (valueOf k row) ≡ true
-unfolding isFine typeOf valueOf
-fine-formed addressAssign row e = and-right (isWhole entrySize row) (wellFormed assign (valueBytes entryBytes (entriesIn row))) e
-fine-formed addressRequest row e = and-right (isWhole entrySize row) (wellFormed request (valueBytes entryBytes (entriesIn row))) e
-fine-formed routeAdvertisement row e = and-right (isWhole rangeSize row) (wellFormed route (valueBytes rangeBytes (rangesIn row))) e
+    go (wrote l f h d) = impossible (cc (ap (λ (w : Writing). w .answer) (sym e ∙ d)))
 
 one-byte : (k : AddressCapsule) → typeOf k ≤ 63
 unfolding typeOf
 one-byte addressAssign = omega arith
 one-byte addressRequest = omega arith
 one-byte routeAdvertisement = omega arith
-
-and-false : (b : Bool) → b && false ≡ false
-and-false true = refl
-and-false false = refl
 
 module _ (op : Opening) (o : opted op ≡ true) (k : AddressCapsule) where
   is-address : kindOf op (typeOf k) ≡ Address
@@ -266,7 +213,7 @@ known-of : {A : Type 0} (f : Form A) (whole : Bool) (rule : List A → Bool) (es
 unfolding isWritable
 known-of f whole rule es e =
     let short = leb (length (valueBytes (f .bytes) es)) longestAddressValue in
-    and-left (allKnown f es) (rule es) (and-right short (allKnown f es && rule es) (and-right whole (short && (allKnown f es && rule es)) e))
+    both (allKnown f es) (rule es) (both short (allKnown f es && rule es) (both whole (short && (allKnown f es && rule es)) e .1) .1) .0
 
 read-as : (k : AddressCapsule) (row : List ℕ) → Bytes row → hasLargeId k row ≡ false → keepsRules k row ≡ true → ReadBackAs k (valueOf k row) row
 unfolding hasLargeId keepsRules valueOf
@@ -283,7 +230,7 @@ module _ (k : AddressCapsule) (row out : List ℕ) (place : ℕ) (b : Bytes row)
 
   stands : hasLargeId k row ≡ false → isFine k row ≡ true → place + length capsule ≤ length out → Standing k row out place (length capsule) (sets out place capsule)
   stands l f h =
-      let good : wellFormed (typeOf k) v ≡ true = fine-formed k row f in
+      let good : wellFormed (typeOf k) v ≡ true = both (isWhole (recordSize k) row) (wellFormed (typeOf k) v) f .1 in
       record {
         before = put-front capsule out place h;
         behind = put-back capsule out place h;
@@ -299,7 +246,7 @@ pub written-stands : WrittenStands
 written-stands k row out place n after b e = go (way-of k row out place)
   where
     go : Way (hasLargeId k row) (isFine k row) (capsuleOf (typeOf k) (valueOf k row)) out place (writeOf k row out place) → Standing k row out place n after
-    go (refused r d) = no-both (sym d ∙ e)
+    go (refused r d) = impossible (cc (ap (λ (w : Writing). w .answer) (sym d ∙ e)))
     go (wrote l f h d) =
         let c : List ℕ = capsuleOf (typeOf k) (valueOf k row) in
         let x : writing (Wrote (length c)) (sets out place c) ≡ writing (Wrote n) after = sym d ∙ e in

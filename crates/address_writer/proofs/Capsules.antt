@@ -1,10 +1,6 @@
 -- A capsule with a type of one byte. Assumes nothing.
 use Rattle.walks.proofs.Words.{_≡_, ℕ, _+_, arith, List, length}
-use Rattle.wire.specs.Varint.{leastSize}
-use Rattle.wire.proofs.Encoding.{shortest}
-use Rattle.capsule_laws.proofs.Written.{written-length, one-written}
-use Rattle.address_writer.specs.Writer.{capsuleOf}
-use Rattle.address_writer.specs.Claims.{OneCapsule, HeaderShortest}
+use Rattle.address_writer.proofs.Terms.{leastSize, shortest, written-length, one-written, capsuleOf, OneCapsule, HeaderShortest}
 
 pub capsule-length : (t : ℕ) (v : List ℕ) → length (capsuleOf t v) ≡ 1 + leastSize (length v) + length v
 unfolding capsuleOf

@@ -1,11 +1,6 @@
 -- When the address writer's 6 is given, in document 02's words. Assumes nothing.
 use Rattle.walks.proofs.Words.{_≡_, refl, sym, ap, _∙_, _↔_, ℕ, zero, suc, _+_, _-_, _*_, _/_, _^_, _≤_, _<_, arith, Bool, true, false, not, true≢false, false≢true, List, length, take, drop, leb, leb-true, leb-false}
-use Rattle.wire.specs.Varint.{largest}
-use Rattle.addresses.specs.Addresses.{allOf}
-use Rattle.address_writer.specs.Rows.{littleEndian, entriesIn}
-use Rattle.address_writer.specs.Writer.{idFits}
-use Rattle.address_writer.specs.Claims.{addressAssign, addressRequest, routeAdvertisement, hasLargeId, LargeIdExactly}
-use Rattle.address_writer.proofs.Rows.{ids, ids-all, ids-end, ids-large, ids-on, id-fits, idAt}
+use Rattle.address_writer.proofs.Terms.{largest, allOf, littleEndian, entriesIn, idFits, AddressCapsule, addressAssign, addressRequest, routeAdvertisement, hasLargeId, LargeId, LargeIdExactly, impossible, ids, ids-all, ids-end, ids-large, ids-on, id-fits, idAt}
 
 module _ (row : List ℕ) where
   abbrev Large : Type 0
@@ -28,8 +23,12 @@ module _ (row : List ℕ) where
   found true e = (λ f. absurd (false≢true f), λ l. absurd (true≢false (sym (all-fit (l .0) (ids-all row ∙ e) (l .1)) ∙ ids-large row (l .0) (l .1) (unfold largest in l .2))))
   found false e = (λ f. seek (length row / 32) 0 (omega arith) (ids-all row ∙ e), λ l. refl)
 
+  -- of a row of addresses
+  large-id : (k : AddressCapsule) → (k ≡ routeAdvertisement → _≡_ {A = ℕ} 0 1) → (not (allOf idFits (entriesIn row)) ≡ true) ↔ LargeId k row
+  large-id k n = let f = found (allOf idFits (entriesIn row)) refl in (λ e. (λ z. impossible (n z), f .0 e), λ l. f .1 (l .1))
+
 pub large-id-exactly : LargeIdExactly
 unfolding hasLargeId
-large-id-exactly addressAssign row = let f = found row (allOf idFits (entriesIn row)) refl in (λ e. (λ z. let a : _≡_ {A = ℕ} 0 1 = cc in let n : ⊥ = omega arith in n, f .0 e), λ l. f .1 (l .1))
-large-id-exactly addressRequest row = let f = found row (allOf idFits (entriesIn row)) refl in (λ e. (λ z. let a : _≡_ {A = ℕ} 0 1 = cc in let n : ⊥ = omega arith in n, f .0 e), λ l. f .1 (l .1))
+large-id-exactly addressAssign row = large-id row addressAssign (λ z. cc)
+large-id-exactly addressRequest row = large-id row addressRequest (λ z. cc)
 large-id-exactly routeAdvertisement row = (λ e. absurd (false≢true e), λ l. absurd (l .0 refl))

@@ -1,8 +1,7 @@
 -- The records of a row, one after another. Assumes nothing.
 use Rattle.walks.proofs.Words.{_≡_, refl, ap, _∙_, ℕ, zero, suc, _+_, _*_, _/_, _<_, arith, List, length, drop, getElem?, drop-drop, some, eq-eqb, eqb-true}
 use native.Mathlib.Nat.{mul-suc}
-use Rattle.address_writer.specs.Rows.{entryOf, rangeOf, firstOf, allIn, isWhole, entriesIn, rangesIn}
-use Rattle.address_writer.specs.Claims.{WholeExactly, EveryEntry}
+use Rattle.address_writer.proofs.Terms.{entryOf, rangeOf, firstOf, allIn, isWhole, entriesIn, rangesIn, WholeExactly, EveryEntry}
 
 pub whole-exactly : WholeExactly
 unfolding isWhole

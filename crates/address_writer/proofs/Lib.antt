@@ -1,5 +1,4 @@
-pub mod Rows
-pub mod Putting
+mod Terms
 pub mod Writing
 pub mod Capsules
 pub mod ReadBack

@@ -118,18 +118,30 @@ unfoldable pub rangesOf6 : ℕ → ℕ → List ℕ
 rangesOf6 from zero = []
 rangesOf6 from (suc n) = range 6 17 (six from) (six from) ++ rangesOf6 (suc from) n
 
-abbrev Answers : AddressCapsule → List ℕ → ℕ → Written → Type 0
-Answers k row n a = writeOf k row (room n) 0 .answer ≡ a
+-- an output of n bytes, and the answer alone
+pub record Long : Type 0 where
+  pub capsule : AddressCapsule
+  pub row : List ℕ
+  pub room : ℕ
+  pub answer : Written
+
+abbrev long : AddressCapsule → List ℕ → ℕ → Written → Long
+long k row n a = record { capsule = k; row = row; room = n; answer = a }
+
+abbrev longCases : List Long
+longCases =
+    -- 122 entries of 8 bytes and 7 of 7 bytes are 1,025 bytes; one of 8 bytes changed for one of 7 makes 1,024
+    long addressAssign (entriesOf id258 122 (entriesOf (small 1) 7 [])) 1100 (Refused (refusal 26)) ∷
+    long addressAssign (entriesOf id258 121 (entriesOf (small 1) 8 [])) 1027 (Wrote 1027) ∷
+    long addressRequest (entriesOf id258 128 []) 1026 (Refused (refusal 5)) ∷
+    -- an ID behind 1,024 bytes of value
+    long addressRequest (entriesOf id258 129 (entriesOf idTooLarge 1 [])) 1100 (Refused (refusal 6)) ∷
+    -- 82 ranges of IP version 4 and 6 of version 6 are 1,024 bytes
+    long routeAdvertisement (rangesOf4 0 82 (rangesOf6 0 6)) 1027 (Wrote 1027) ∷
+    long routeAdvertisement (rangesOf4 0 83 (rangesOf6 0 6)) 1100 (Refused (refusal 26)) ∷
+    []
 
 abbrev pub AllCases : Type 0
 AllCases =
     (map (λ c. writeOf (c .capsule) (c .row) (c .out) (c .place)) cases ≡ map (λ c. writing (c .answer) (c .after)) cases)
-    -- 122 entries of 8 bytes and 7 of 7 bytes are 1,025 bytes; one of 8 bytes changed for one of 7 makes 1,024
-    × Answers addressAssign (entriesOf id258 122 (entriesOf (small 1) 7 [])) 1100 (Refused (refusal 26))
-    × Answers addressAssign (entriesOf id258 121 (entriesOf (small 1) 8 [])) 1027 (Wrote 1027)
-    × Answers addressRequest (entriesOf id258 128 []) 1026 (Refused (refusal 5))
-    -- an ID behind 1,024 bytes of value
-    × Answers addressRequest (entriesOf id258 129 (entriesOf idTooLarge 1 [])) 1100 (Refused (refusal 6))
-    -- 82 ranges of IP version 4 and 6 of version 6 are 1,024 bytes
-    × Answers routeAdvertisement (rangesOf4 0 82 (rangesOf6 0 6)) 1027 (Wrote 1027)
-    × Answers routeAdvertisement (rangesOf4 0 83 (rangesOf6 0 6)) 1100 (Refused (refusal 26))
+    × (map (λ c. writeOf (c .capsule) (c .row) (room (c .room)) 0 .answer) longCases ≡ map (λ c. c .answer) longCases)

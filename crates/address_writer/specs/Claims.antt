@@ -21,8 +21,8 @@ use Rattle.opening.specs.Kinds.{opted}
 use Rattle.capsule.specs.Book.{partsFor, reported}
 use Rattle.addresses.specs.Addresses.{assign, request, route, longestAddressValue, widthOf, Step, entries, allOf, Entry, entryAt, goodEntry, goodRequests, Range, rangeAt, goodRanges, wellFormed}
 use Rattle.addresses.specs.Encoding.{entryBytes, rangeBytes, valueBytes}
-use Rattle.address_writer.specs.Rows.{littleEndian, entrySize, entryOf, rangeSize, rangeOf, isWhole, entriesIn, rangesIn}
-use Rattle.address_writer.specs.Writer.{capsuleOf, idFits, writeAddresses, writeRoutes}
+use Rattle.address_rows.specs.Rows.{littleEndian, entrySize, entryOf, rangeSize, rangeOf, isWhole, entriesIn, rangesIn, idFits}
+use Rattle.address_writer.specs.Writer.{capsuleOf, writeAddresses, writeRoutes}
 
 -- ---- a capsule (proofs/Capsules.antt)
 

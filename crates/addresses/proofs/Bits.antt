@@ -1,10 +1,6 @@
 -- Bits beyond a prefix, by the address's number. Assumes nothing.
 use Rattle.walks.proofs.Words.{_≡_, sym, ap, _∙_, _&&_, ℕ, zero, suc, _+_, _-_, _*_, _%_, _^_, _≤_, _<_, mod-eq-of-lt, mul-add-mod-self-right, arith, List, [], _∷_, length, digits-div, digits-mod, pow-add, mod-pow-add, eqb, eq-eqb, ne-eqb}
-use Rattle.wire.specs.Bytes.{Bytes, num, numFrom}
-use Rattle.wire.proofs.Numbers.{pow-256, num-lt}
-use Rattle.wire.proofs.Reading.{split}
-use Rattle.addresses.specs.Addresses.{clearBeyond}
-use Rattle.addresses.specs.Claims.{BitsBeyond}
+use Rattle.addresses.proofs.Terms.{Bytes, num, numFrom, pow-256, num-lt, split, clearBeyond, BitsBeyond}
 use Rattle.addresses.proofs.Runs.{num-cons}
 
 -- two digits are 0 exactly if their number is

@@ -1,24 +1,12 @@
 -- A value is the bytes of its entries. Assumes nothing.
-use Rattle.walks.proofs.Words.{_≡_, refl, sym, ap, _∙_, Bool, true, false, cond, _&&_, Option, none, some, ℕ, zero, suc, _+_, _-_, _*_, _/_, _%_, _^_, _≤_, _<_, div-div-eq-div-mul, div-add-mod', mod-lt, arith, List, [], _∷_, _++_, length, getD, take, drop, length-take-le, drop-append-seam, pow-add, pow-pos, ltb}
-use Rattle.wire.specs.declared.varint.Varint.the-variants.{Whole}
-use Rattle.wire.specs.Bytes.{Bytes, num, bytesOf}
-use Rattle.wire.specs.Varint.{sizeOf, valueOf, readVarint, encodeAs, encode}
-use Rattle.wire.proofs.Numbers.{pow-256, num-first, num-lt, bytesOf-num, bytes-take, bytes-drop}
-use Rattle.wire.proofs.Reading.{split, sizeOf-pos, sizeOf-at, read-whole, read-less, whole-incomplete}
-use Rattle.addresses.specs.Addresses.{Step, done, malformed, next, ahead, entries, widthOf, Entry, entryAt, Range, rangeAt}
-use Rattle.addresses.specs.Encoding.{entryBytes, rangeBytes, valueBytes}
-use Rattle.addresses.specs.Sizes.{SizedEntry, sizedFor, sizedAt, sizedBytes}
-use Rattle.addresses.specs.Claims.{Each, IsEntry, IsRange, IsBytesOf, NothingLost, SizesBeside, WrittenShortest, Decides, EntriesDecide}
-use Rattle.addresses.proofs.Lists.{entries-end, entries-malformed, entries-next, mapStep, entries-map}
-use Rattle.addresses.proofs.Reading.{end-next, malformed-next, malformed-end, next-end, entry-not-end, entry-front, entry-shrinks, RangeFront, range-front, range-shrinks}
+use Rattle.walks.proofs.Words.{_≡_, refl, sym, ap, _∙_, Option, none, some, ℕ, zero, suc, _+_, _-_, _*_, _/_, _%_, _^_, _≤_, _<_, div-div-eq-div-mul, div-add-mod', mod-lt, arith, List, [], _∷_, _++_, length, take, length-take-le, drop-append-seam, pow-add, pow-pos}
+use Rattle.addresses.proofs.Terms.{Whole, Bytes, num, bytesOf, sizeOf, valueOf, readVarint, encodeAs, encode, pow-256, num-first, num-lt, bytesOf-num, bytes-take, bytes-drop, split, sizeOf-pos, sizeOf-at, read-whole, read-less, whole-incomplete, Step, done, malformed, next, ahead, entries, widthOf, Entry, entryAt, Range, rangeAt, entryBytes, rangeBytes, valueBytes, SizedEntry, sizedFor, sizedAt, sizedBytes, Each, IsEntry, IsRange, IsBytesOf, NothingLost, SizesBeside, WrittenShortest, Decides, EntriesDecide}
+use Rattle.addresses.proofs.{Lists.impossible, Lists.Shrinks, Lists.entries-end, Lists.entries-malformed, Lists.entries-next, Lists.mapStep, Lists.entries-map, Reading.entry-not-end, Reading.entry-front, Reading.entry-shrinks, Reading.RangeFront, Reading.range-front, Reading.range-shrinks, Reading.range-not-end}
 
 -- ---- any entries
 
-none-some {ℓ} : {X : Type ℓ} {A : Type 0} {o : Option A} {a : A} → o ≡ none → o ≡ some a → X
-none-some p q = let z : _≡_ {A = ℕ} 0 1 = cc in absurd (let n : ⊥ = omega arith in n)
-
 module _ {A : Type 0} (read : List ℕ → Step A) (bytes : A → List ℕ) (Is : A → Type 0)
-    (shrinks : (v rest : List ℕ) (e : A) → read v ≡ next e rest → length rest < length v)
+    (shrinks : Shrinks read)
     (ends : (v : List ℕ) → read v ≡ done → v ≡ [])
     (fronts : (v rest : List ℕ) (e : A) → Bytes v → read v ≡ next e rest → (v ≡ bytes e ++ rest) × Is e) where
   rest-bytes : (v rest : List ℕ) (e : A) → Bytes v → v ≡ bytes e ++ rest → Bytes rest
@@ -31,11 +19,11 @@ module _ {A : Type 0} (read : List ℕ → Step A) (bytes : A → List ℕ) (Is 
     where
       go : ((t : List ℕ) → length t < n → (es : List A) → Bytes t → entries read t ≡ some es → (t ≡ valueBytes bytes es) × Each Is es) → (s : Step A) → read v ≡ s → (v ≡ valueBytes bytes es) × Each Is es
       go again done e = let isE : es ≡ [] = cc (entries-end read shrinks v e) in rw isE (ends v e, tt)
-      go again malformed e = none-some (entries-malformed read shrinks v e) p
+      go again malformed e = impossible (cc (entries-malformed read shrinks v e))
       go again (next a rest) e = on (entries read rest) refl
         where
           on : (o : Option (List A)) → entries read rest ≡ o → (v ≡ valueBytes bytes es) × Each Is es
-          on none d = none-some (entries-next read shrinks v rest a e ∙ ap (ahead a) d) p
+          on none d = impossible (cc (entries-next read shrinks v rest a e ∙ ap (ahead a) d))
           on (some l) d =
               let isE : es ≡ a ∷ l = cc (entries-next read shrinks v rest a e ∙ ap (ahead a) d) in
               let front = fronts v rest a b e in
@@ -79,17 +67,18 @@ id-front b s n k h e = split (sizeOf b) (length (b ∷ s)) (λ l. go (sizeOf b) 
 -- ---- ASSIGN and REQUEST
 
 -- an entry with its size is the one that stands there
-sized-entry : (v rest : List ℕ) (f : SizedEntry) → sizedAt v ≡ next f rest → entryAt v ≡ next (f .entry) rest
-unfolding sizedAt sizedFor
-sized-entry [] rest f p = end-next refl p
-sized-entry (b ∷ v) rest f p = go (entryAt (b ∷ v)) refl p
-  where
-    go : (s : Step Entry) → entryAt (b ∷ v) ≡ s → sizedFor (b / 64) s ≡ next f rest → entryAt (b ∷ v) ≡ next (f .entry) rest
-    go done d q = end-next refl q
-    go malformed d q = malformed-next refl q
-    go (next e t) d q = let isF : _≡_ {A = SizedEntry} (record { width = b / 64; entry = e }) f = cc in let isT : t ≡ rest = cc in d ∙ rw (← isF, isT)
+sized-next : (w : ℕ) (s : Step Entry) (rest : List ℕ) (f : SizedEntry) → sizedFor w s ≡ next f rest → (s ≡ next (f .entry) rest) × (w ≡ f .width)
+unfolding sizedFor
+sized-next w done rest f q = impossible (cc)
+sized-next w malformed rest f q = impossible (cc)
+sized-next w (next e t) rest f q = let isF : _≡_ {A = SizedEntry} (record { width = w; entry = e }) f = cc in let isT : t ≡ rest = cc in (rw (← isF, isT), cc)
 
-pub sized-shrinks : (v rest : List ℕ) (f : SizedEntry) → sizedAt v ≡ next f rest → length rest < length v
+sized-entry : (v rest : List ℕ) (f : SizedEntry) → sizedAt v ≡ next f rest → entryAt v ≡ next (f .entry) rest
+unfolding sizedAt
+sized-entry [] rest f p = impossible (cc)
+sized-entry (b ∷ v) rest f p = sized-next (b / 64) (entryAt (b ∷ v)) rest f p .0
+
+pub sized-shrinks : Shrinks sizedAt
 sized-shrinks v rest f p = entry-shrinks v rest (f .entry) (sized-entry v rest f p)
 
 sized-ends : (v : List ℕ) → sizedAt v ≡ done → v ≡ []
@@ -99,36 +88,24 @@ sized-ends (b ∷ v) p = go (entryAt (b ∷ v)) refl p
   where
     go : (s : Step Entry) → entryAt (b ∷ v) ≡ s → sizedFor (b / 64) s ≡ done → b ∷ v ≡ []
     go done d q = entry-not-end (b ∷ v) (omega arith) d
-    go malformed d q = malformed-end refl q
-    go (next e t) d q = next-end refl q
+    go malformed d q = impossible (cc)
+    go (next e t) d q = impossible (cc)
 
 sized-front : (v rest : List ℕ) (f : SizedEntry) → Bytes v → sizedAt v ≡ next f rest → (v ≡ sizedBytes f ++ rest) × IsEntry f
-unfolding sizedAt sizedFor sizedBytes
-sized-front [] rest f h p = end-next refl p
+unfolding sizedAt sizedBytes
+sized-front [] rest f h p = impossible (cc)
 sized-front (b ∷ v) rest f h p =
-    let g = entry-front (b ∷ v) rest (f .entry) (sized-entry (b ∷ v) rest f p) in
+    let s = sized-next (b / 64) (entryAt (b ∷ v)) rest f p in
+    let g = entry-front (b ∷ v) rest (f .entry) (s .0) in
     let i = id-front b v (f .entry .id) (g .size) h (g .reads) in
-    let isW : b / 64 ≡ f .width = width (entryAt (b ∷ v)) p in
     let most : b / 64 ≤ 3 = omega (arith, h .0) in
-    (g .joins ∙ rw (i .0 ∙ ap (λ (w : ℕ). encodeAs w (f .entry .id)) isW), (rw isW at most, rw isW at (i .1), g .some, g .width))
-  where
-    width : (s : Step Entry) → sizedFor (b / 64) s ≡ next f rest → b / 64 ≡ f .width
-    width done q = end-next refl q
-    width malformed q = malformed-next refl q
-    width (next e t) q = cc
+    (g .joins ∙ rw (i .0 ∙ ap (λ (w : ℕ). encodeAs w (f .entry .id)) (s .1)), (rw (s .1) at most, rw (s .1) at (i .1), g .some, g .width))
 
 -- ---- ranges
 
 range-ends : (v : List ℕ) → rangeAt v ≡ done → v ≡ []
-unfolding rangeAt
 range-ends [] p = refl
-range-ends (b ∷ v) p = go (ltb 0 (widthOf b) && ltb (widthOf b + widthOf b) (length v)) p
-  where
-    go : (t : Bool)
-        → _≡_ {A = Step Range} (cond t (next (record { version = b; start = num (take (widthOf b) v); end = num (take (widthOf b) (drop (widthOf b) v)); protocol = getD v (widthOf b + widthOf b) 0 }) (drop (widthOf b + widthOf b + 1) v)) malformed) done
-        → b ∷ v ≡ []
-    go true q = next-end refl q
-    go false q = malformed-end refl q
+range-ends (b ∷ v) p = range-not-end b v p
 
 range-joins : (v rest : List ℕ) (r : Range) → Bytes v → rangeAt v ≡ next r rest → (v ≡ rangeBytes r ++ rest) × IsRange r
 unfolding rangeBytes

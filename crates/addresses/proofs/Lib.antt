@@ -1,13 +1,9 @@
+mod Terms
 pub mod Cases
 pub mod Runs
 pub mod Bits
-pub mod Order
 pub mod Lists
 pub mod Reading
-pub mod Stepping
 pub mod Encoding
 pub mod ReadBack
-pub mod Pairs
-pub mod Search
 pub mod Judging
-pub mod Handing

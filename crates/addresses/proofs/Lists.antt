@@ -1,17 +1,20 @@
 -- Entries one after another. Assumes nothing.
-use Rattle.walks.proofs.Words.{_≡_, refl, sym, ap, _∙_, Bool, true, false, _&&_, and-false, Option, none, some, Option·map, ℕ, zero, suc, _<_, arith, List, [], map, length}
-use Rattle.addresses.specs.Pass.{Seen, fits, after, pass}
-use Rattle.addresses.specs.Addresses.{Range, Step, done, malformed, next, ahead, onwards, entriesBy, entries, allOf, areGood}
+use Rattle.walks.proofs.Words.{_≡_, refl, sym, ap, _∙_, Bool, true, false, _&&_, and-false, Option, none, some, Option·map, ℕ, zero, suc, _<_, arith, List, [], _∷_, map, length}
+use Rattle.addresses.proofs.Terms.{Step, done, malformed, next, ahead, onwards, entriesBy, entries, areGood}
 
-module _ {A : Type 0} (read : List ℕ → Step A) (shrinks : (v rest : List ℕ) (e : A) → read v ≡ next e rest → length rest < length v) where
-  by-end : (f : ℕ) (v : List ℕ) → read v ≡ done → entriesBy read (suc f) v ≡ some []
-  unfolding entriesBy onwards
-  by-end f v e = rw e
+-- by `cc`, from two constructors that would be equal
+pub impossible {ℓ} : {X : Type ℓ} → _≡_ {A = ℕ} 0 1 → X
+impossible z = absurd (let n : ⊥ = omega arith in n)
 
-  by-malformed : (f : ℕ) (v : List ℕ) → read v ≡ malformed → entriesBy read (suc f) v ≡ none
-  unfolding entriesBy onwards
-  by-malformed f v e = rw e
+pub both : (a b : Bool) → a && b ≡ true → (a ≡ true) × (b ≡ true)
+both true b e = (refl, e)
+both false b e = impossible (cc)
 
+-- an entry takes at least one byte
+abbrev pub Shrinks : {A : Type 0} → (List ℕ → Step A) → Type 0
+Shrinks {A} read = (v rest : List ℕ) (e : A) → read v ≡ next e rest → length rest < length v
+
+module _ {A : Type 0} (read : List ℕ → Step A) (shrinks : Shrinks read) where
   by-next : (f : ℕ) (v rest : List ℕ) (a : A) → read v ≡ next a rest → entriesBy read (suc f) v ≡ ahead a (entriesBy read f rest)
   unfolding entriesBy onwards
   by-next f v rest a e = rw e
@@ -23,25 +26,43 @@ module _ {A : Type 0} (read : List ℕ → Step A) (shrinks : (v rest : List ℕ
   fuel (suc f) (suc g) v l m = go (λ t. fuel f g t) (read v) refl
     where
       go : ((t : List ℕ) → length t < f → length t < g → entriesBy read f t ≡ entriesBy read g t) → (s : Step A) → read v ≡ s → entriesBy read (suc f) v ≡ entriesBy read (suc g) v
-      go again done e = by-end f v e ∙ sym (by-end g v e)
-      go again malformed e = by-malformed f v e ∙ sym (by-malformed g v e)
+      go again done e = unfold entriesBy onwards in rw e
+      go again malformed e = unfold entriesBy onwards in rw e
       go again (next a rest) e =
           let k = shrinks v rest a e in
           by-next f v rest a e ∙ ap (ahead a) (again rest (omega arith) (omega arith)) ∙ sym (by-next g v rest a e)
 
   pub entries-end : (v : List ℕ) → read v ≡ done → entries read v ≡ some []
-  unfolding entries
-  entries-end v e = by-end (length v) v e
+  unfolding entries entriesBy onwards
+  entries-end v e = rw e
 
   pub entries-malformed : (v : List ℕ) → read v ≡ malformed → entries read v ≡ none
-  unfolding entries
-  entries-malformed v e = by-malformed (length v) v e
+  unfolding entries entriesBy onwards
+  entries-malformed v e = rw e
 
   pub entries-next : (v rest : List ℕ) (a : A) → read v ≡ next a rest → entries read v ≡ ahead a (entries read rest)
   unfolding entries
   entries-next v rest a e =
       let k = shrinks v rest a e in
       by-next (length v) v rest a e ∙ ap (ahead a) (fuel (length v) (suc (length rest)) rest k (omega arith))
+
+  -- a rule over a value's entries, an entry at a time
+  module _ (good : List A → Bool) (v : List ℕ) where
+    pub judged-end : read v ≡ done → areGood good (entries read v) ≡ good []
+    unfolding areGood
+    judged-end e = rw (entries-end v e)
+
+    pub judged-malformed : read v ≡ malformed → areGood good (entries read v) ≡ false
+    unfolding areGood
+    judged-malformed e = rw (entries-malformed v e)
+
+    pub judged-next : (rest : List ℕ) (a : A) (t : Bool) (more : List A → Bool) → ((es : List A) → good (a ∷ es) ≡ t && more es) → read v ≡ next a rest
+        → areGood good (entries read v) ≡ t && areGood more (entries read rest)
+    judged-next rest a t more f e = ap (areGood good) (entries-next v rest a e) ∙ go (entries read rest)
+      where
+        go : (es : Option (List A)) → areGood good (ahead a es) ≡ t && areGood more es
+        go none = unfold areGood ahead in sym (and-false t)
+        go (some es) = unfold areGood ahead in f es
 
 pub map-ahead : {A B : Type 0} (form : A → B) (e : A) (es : Option (List A)) → Option·map (map form) (ahead e es) ≡ ahead (form e) (Option·map (map form) es)
 unfolding ahead
@@ -69,26 +90,3 @@ module _ {A B : Type 0} (form : A → B) (read : List ℕ → Step A) (other : L
   pub entries-map : (v : List ℕ) → Option·map (map form) (entries read v) ≡ entries other v
   unfolding entries
   entries-map v = map-by (suc (length v)) v
-
-pub good-ahead : {A : Type 0} (good : A → Bool) (a : A) (es : Option (List A)) → areGood (allOf good) (ahead a es) ≡ good a && areGood (allOf good) es
-unfolding areGood allOf ahead
-good-ahead good a none = sym (and-false (good a))
-good-ahead good a (some es) = refl
-
-pub pass-ahead : (st : Seen) (r : Range) (rs : Option (List Range)) → areGood (pass st) (ahead r rs) ≡ fits st r && areGood (pass (after st r)) rs
-unfolding areGood pass ahead
-pass-ahead st r none = sym (and-false (fits st r))
-pass-ahead st r (some rs) = refl
-
--- what a loop over a value knows at each place
-module _ {A : Type 0} (read : List ℕ → Step A) (shrinks : (v rest : List ℕ) (e : A) → read v ≡ next e rest → length rest < length v) (good : A → Bool) (v : List ℕ) where
-  pub judged-end : read v ≡ done → areGood (allOf good) (entries read v) ≡ true
-  unfolding areGood allOf
-  judged-end e = rw (entries-end read shrinks v e)
-
-  pub judged-malformed : read v ≡ malformed → areGood (allOf good) (entries read v) ≡ false
-  unfolding areGood
-  judged-malformed e = rw (entries-malformed read shrinks v e)
-
-  pub judged-next : (rest : List ℕ) (a : A) → read v ≡ next a rest → areGood (allOf good) (entries read v) ≡ good a && areGood (allOf good) (entries read rest)
-  judged-next rest a e = ap (areGood (allOf good)) (entries-next read shrinks v rest a e) ∙ good-ahead good a (entries read rest)

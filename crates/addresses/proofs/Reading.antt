@@ -1,31 +1,40 @@
 -- Entries and ranges at a place of a value. Assumes nothing.
-use Rattle.walks.proofs.Words.{_≡_, refl, sym, ap, _∙_, Bool, true, false, cond, _&&_, ℕ, suc, _+_, _-_, _≤_, _<_, add-one, arith, List, [], _∷_, _++_, append-assoc, length, getD, take, drop, length-drop, length-append, take-append-drop, drop-cons, drop-drop, drop-length, getD-drop, take-all, take-add, split-at, append-snoc, length-take-le, ltb, lt-ltb, le-ltb, ltb-true}
-use Rattle.wire.specs.declared.varint.Varint.{Varint}
-use Rattle.wire.specs.declared.varint.Varint.the-variants.{Incomplete, Whole}
-use Rattle.wire.specs.Bytes.{Bytes, num}
-use Rattle.wire.proofs.Numbers.{bytes-take, bytes-drop}
-use Rattle.wire.specs.Varint.{readVarint}
-use Rattle.wire.proofs.Reading.{reads}
-use Rattle.addresses.specs.declared.Place.{Place}
+use Rattle.walks.proofs.Words.{_≡_, refl, sym, ap, _∙_, cond, _&&_, and-true, ℕ, suc, _+_, _-_, _≤_, _<_, add-one, arith, List, [], _∷_, _++_, append-assoc, length, getD, take, drop, length-drop, length-append, take-append-drop, drop-cons, drop-drop, drop-of-length-le, getD-drop, take-all, take-add, split-at, append-snoc, length-take-le, ltb, lt-ltb, le-ltb}
+use Rattle.addresses.proofs.Terms.{Varint, Incomplete, Whole, Bytes, num, bytes-take, bytes-drop, readVarint, reads, split, Place, Step, done, malformed, next, widthOf, Entry, addressAt, identified, entryAt, Range, rangeAt, entryIn, placed, Inside, EntryRead, rangeIn, rangePlaced, RangeRead}
 use Rattle.addresses.specs.declared.Place.the-variants as place
-use Rattle.addresses.specs.declared.RangePlace.{RangePlace}
 use Rattle.addresses.specs.declared.RangePlace.the-variants as range-place
-use Rattle.addresses.specs.Addresses.{Step, done, malformed, next, widthOf, Entry, addressAt, identified, entryAt, Range, rangeAt}
-use Rattle.addresses.proofs.Order.{both}
-use Rattle.addresses.specs.Places.{entryIn, placed, Inside, Within, EntryRead, AddressRead, rangeIn, rangePlaced, RangeRead}
-
-nothing-left : (v : List ℕ) (at : ℕ) → at ≡ length v → drop at v ≡ []
-nothing-left v at e = rw e (drop-length v)
+use Rattle.addresses.proofs.Lists.{impossible, Shrinks}
 
 -- the rest of a value, as the code lends it
 pub rest-of : (v : List ℕ) (at : ℕ) → take (length v - at) (drop at v) ≡ drop at v
 rest-of v at = take-all (length v - at) (drop at v) (omega (arith, length-drop at v))
 
-pub end-next {ℓ} : {X : Type ℓ} {A : Type 0} {s : Step A} {e : A} {rest : List ℕ} → s ≡ done → s ≡ next e rest → X
-end-next p q = let z : _≡_ {A = ℕ} 0 1 = cc in absurd (let n : ⊥ = omega arith in n)
+-- ---- the test that entries and ranges have alike: a version, and enough bytes
 
-pub malformed-next {ℓ} : {X : Type ℓ} {A : Type 0} {s : Step A} {e : A} {rest : List ℕ} → s ≡ malformed → s ≡ next e rest → X
-malformed-next p q = let z : _≡_ {A = ℕ} 0 1 = cc in absurd (let n : ⊥ = omega arith in n)
+module _ {A : Type 0} (w k n : ℕ) (e : A) (rest : List ℕ) where
+  abbrev tested : Step A
+  tested = cond (ltb 0 w && ltb k n) (next e rest) malformed
+
+  pub long-enough : k < n → tested ≡ cond (ltb 0 w) (next e rest) malformed
+  long-enough l = rw (lt-ltb k n l, and-true (ltb 0 w))
+
+  passes : 0 < w → k < n → tested ≡ next e rest
+  passes p l = long-enough l ∙ rw (lt-ltb 0 w p)
+
+  fails : (0 < w → k < n → ⊥) → tested ≡ malformed
+  fails f = split w 0 (λ z. rw (le-ltb 0 w z)) (λ p. split n k (λ l. rw (lt-ltb 0 w p, le-ltb k n l)) (λ l. absurd (f p l)))
+
+  passed : {s : Step A} → (s ≡ malformed → ⊥) → tested ≡ s → (0 < w) × (k < n) × (next e rest ≡ s)
+  passed f h =
+      split w 0
+      (λ z. absurd (f (sym h ∙ fails (λ p l. omega arith))))
+      (λ p. split n k (λ l. absurd (f (sym h ∙ fails (λ q m. omega arith)))) (λ l. (p, l, sym (passes p l) ∙ h)))
+
+  not-end {ℓ} : {X : Type ℓ} → tested ≡ done → X
+  not-end h = let q : next e rest ≡ done = passed (λ p. impossible (cc)) h .2 in impossible (cc)
+
+not-malformed : {A : Type 0} {e : A} {rest : List ℕ} → next e rest ≡ malformed → ⊥
+not-malformed p = impossible (cc)
 
 -- ---- entries
 
@@ -38,26 +47,20 @@ record AddressFront (id : ℕ) (v rest : List ℕ) (e : Entry) : Type 0 where
 
 address-front : (id : ℕ) (v rest : List ℕ) (e : Entry) → addressAt id v ≡ next e rest → AddressFront id v rest e
 unfolding addressAt
-address-front id [] rest e p = malformed-next refl p
-address-front id (b ∷ v) rest e p = go (ltb 0 (widthOf b) && ltb (widthOf b) (length v)) refl p
-  where
-    go : (t : Bool) → ltb 0 (widthOf b) && ltb (widthOf b) (length v) ≡ t
-        → _≡_ {A = Step Entry} (cond t (next (record { id = id; version = b; address = take (widthOf b) v; prefix = getD v (widthOf b) 0 }) (drop (widthOf b + 1) v)) malformed) (next e rest)
-        → AddressFront id (b ∷ v) rest e
-    go true d q =
-        let w = widthOf b in
-        let t = both (ltb 0 w) (ltb w (length v)) d in
-        let l = ltb-true w (length v) (t .1) in
-        let isE : _≡_ {A = Entry} (record { id = id; version = b; address = take w v; prefix = getD v w 0 }) e = cc in
-        let isR : drop (w + 1) v ≡ rest = cc in
-        rw (← isE, ← isR, add-one w)
-        (record {
-          isId = refl;
-          some = ltb-true 0 w (t .0);
-          width = length-take-le w v (omega arith);
-          joins = ap (λ (s : List ℕ). b ∷ s) (split-at v w 0 l ∙ sym (append-snoc (take w v) (getD v w 0) (drop (suc w) v)));
-        })
-    go false d q = malformed-next refl q
+address-front id [] rest e p = impossible (cc)
+address-front id (b ∷ v) rest e p =
+    let w = widthOf b in
+    let t = passed w w (length v) (record { id = id; version = b; address = take w v; prefix = getD v w 0 }) (drop (w + 1) v) not-malformed p in
+    let q = t .2 in
+    let isE : _≡_ {A = Entry} (record { id = id; version = b; address = take w v; prefix = getD v w 0 }) e = cc in
+    let isR : drop (w + 1) v ≡ rest = cc in
+    rw (← isE, ← isR, add-one w)
+    (record {
+      isId = refl;
+      some = t .0;
+      width = length-take-le w v (omega (arith, t .1));
+      joins = ap (λ (s : List ℕ). b ∷ s) (split-at v w 0 (t .1) ∙ sym (append-snoc (take w v) (getD v w 0) (drop (suc w) v)));
+    })
 
 pub record EntryFront (v rest : List ℕ) (e : Entry) : Type 0 where
   pub size : ℕ
@@ -68,11 +71,11 @@ pub record EntryFront (v rest : List ℕ) (e : Entry) : Type 0 where
 
 pub entry-front : (v rest : List ℕ) (e : Entry) → entryAt v ≡ next e rest → EntryFront v rest e
 unfolding entryAt identified
-entry-front [] rest e p = end-next refl p
+entry-front [] rest e p = impossible (cc)
 entry-front (b ∷ v) rest e p = go (readVarint (b ∷ v)) refl p
   where
     go : (r : Varint) → readVarint (b ∷ v) ≡ r → identified (b ∷ v) r ≡ next e rest → EntryFront (b ∷ v) rest e
-    go Incomplete d q = malformed-next refl q
+    go Incomplete d q = impossible (cc)
     go (Whole id k) d q =
         let f = address-front id (drop k (b ∷ v)) rest e q in
         record {
@@ -83,25 +86,15 @@ entry-front (b ∷ v) rest e p = go (readVarint (b ∷ v)) refl p
           joins = sym (take-append-drop k (b ∷ v)) ∙ ap (λ (s : List ℕ). take k (b ∷ v) ++ s) (f .joins) ∙ sym (append-assoc (take k (b ∷ v)) _ rest);
         }
 
-pub entry-shrinks : (v rest : List ℕ) (e : Entry) → entryAt v ≡ next e rest → length rest < length v
+pub entry-shrinks : Shrinks entryAt
 entry-shrinks v rest e p =
     let f = entry-front v rest e p in
     omega (arith, simp length-append at (ap length (f .joins)))
 
-pub malformed-end {ℓ} : {X : Type ℓ} {A : Type 0} {s : Step A} → s ≡ malformed → s ≡ done → X
-malformed-end p q = let z : _≡_ {A = ℕ} 0 1 = cc in absurd (let n : ⊥ = omega arith in n)
-
-pub next-end {ℓ} : {X : Type ℓ} {A : Type 0} {s : Step A} {e : A} {rest : List ℕ} → s ≡ next e rest → s ≡ done → X
-next-end p q = let z : _≡_ {A = ℕ} 0 1 = cc in absurd (let n : ⊥ = omega arith in n)
-
 address-not-end {ℓ} : {X : Type ℓ} (id : ℕ) (v : List ℕ) → addressAt id v ≡ done → X
 unfolding addressAt
-address-not-end id [] p = malformed-end refl p
-address-not-end {X} id (b ∷ v) p = go (ltb 0 (widthOf b) && ltb (widthOf b) (length v)) p
-  where
-    go : (t : Bool) → _≡_ {A = Step Entry} (cond t (next (record { id = id; version = b; address = take (widthOf b) v; prefix = getD v (widthOf b) 0 }) (drop (widthOf b + 1) v)) malformed) done → X
-    go true q = next-end refl q
-    go false q = malformed-end refl q
+address-not-end id [] p = impossible (cc)
+address-not-end id (b ∷ v) p = not-end (widthOf b) (widthOf b) (length v) _ _ p
 
 pub entry-not-end {ℓ} : {X : Type ℓ} (v : List ℕ) → 0 < length v → entryAt v ≡ done → X
 unfolding entryAt identified
@@ -109,72 +102,62 @@ entry-not-end [] h p = absurd (let z : ⊥ = omega arith in z)
 entry-not-end {X} (b ∷ v) h p = go (readVarint (b ∷ v)) p
   where
     go : (r : Varint) → identified (b ∷ v) r ≡ done → X
-    go Incomplete q = malformed-end refl q
+    go Incomplete q = impossible (cc)
     go (Whole id k) q = address-not-end id (drop k (b ∷ v)) q
 
 module _ (v : List ℕ) (id at : ℕ) where
-  pub address-none : at ≡ length v → AddressRead v id at place.Malformed
-  unfolding addressAt placed
-  address-none e = record { reads = rw (nothing-left v at e); inside = tt }
+  abbrev width : ℕ
+  width = widthOf (getD v at 0)
 
-  address-cons : at < length v → let w = widthOf (getD v at 0) in
-      addressAt id (drop at v) ≡ cond (ltb 0 w && ltb w (length v - (at + 1))) (next (entryIn v id (getD v at 0) (at + 1) w) (drop (at + 1 + w + 1) v)) malformed
+  address-cons : at < length v → addressAt id (drop at v) ≡ tested width width (length v - (at + 1)) (entryIn v id (getD v at 0) (at + 1) width) (drop (at + 1 + width + 1) v)
   unfolding addressAt entryIn
   address-cons h =
-      let w = widthOf (getD v at 0) in
-      let n : suc at + (w + 1) ≡ at + 1 + w + 1 = omega arith in
-      rw (drop-cons v at 0 h, length-drop (suc at) v, getD-drop (suc at) v w 0, drop-drop (w + 1) (suc at) v, n, add-one at)
+      let n : suc at + (width + 1) ≡ at + 1 + width + 1 = omega arith in
+      rw (drop-cons v at 0 h, length-drop (suc at) v, getD-drop (suc at) v width 0, drop-drop (width + 1) (suc at) v, n, add-one at)
 
-  pub address-no-version : at < length v → 0 ≡ widthOf (getD v at 0) → AddressRead v id at place.Malformed
+  pub address-none : length v ≤ at → EntryRead (addressAt id (drop at v)) v at place.Malformed
+  unfolding addressAt placed
+  address-none h = record { reads = rw (drop-of-length-le v h); inside = tt }
+
+  pub address-short : at < length v → (0 < width → width < length v - (at + 1) → ⊥) → EntryRead (addressAt id (drop at v)) v at place.Malformed
   unfolding placed
-  address-no-version h e = record { reads = sym (address-cons h ∙ rw (← e)); inside = tt }
+  address-short h f = record { reads = sym (address-cons h ∙ fails width width _ _ _ f); inside = tt }
 
-  pub address-short : at < length v → 0 < widthOf (getD v at 0) → length v - (at + 1) ≤ widthOf (getD v at 0) → AddressRead v id at place.Malformed
+  pub address-whole : at < length v → 0 < width → width < length v - (at + 1) → width ≤ 16 → EntryRead (addressAt id (drop at v)) v at (place.Entry id (getD v at 0) (at + 1) width)
   unfolding placed
-  address-short h p e = record { reads = sym (address-cons h ∙ rw (lt-ltb 0 (widthOf (getD v at 0)) p, le-ltb (widthOf (getD v at 0)) (length v - (at + 1)) e)); inside = tt }
+  address-whole h p e l = record { reads = sym (address-cons h ∙ passes width width _ _ _ p e); inside = (omega arith, omega arith, refl, l) }
 
-  pub address-whole : at < length v → 0 < widthOf (getD v at 0) → widthOf (getD v at 0) < length v - (at + 1) → widthOf (getD v at 0) ≤ 16
-      → AddressRead v id at (place.Entry id (getD v at 0) (at + 1) (widthOf (getD v at 0)))
-  unfolding placed
-  address-whole h p e l =
-      record {
-        reads = sym (address-cons h ∙ rw (lt-ltb 0 (widthOf (getD v at 0)) p, lt-ltb (widthOf (getD v at 0)) (length v - (at + 1)) e));
-        inside = (omega arith, omega arith, refl, l);
-      }
-
-entry-incomplete : (s : List ℕ) → 0 < length s → readVarint s ≡ Incomplete → entryAt s ≡ malformed
-unfolding entryAt identified
-entry-incomplete [] h e = absurd (let z : ⊥ = omega arith in z)
-entry-incomplete (b ∷ s) h e = rw e
+entry-some : (s : List ℕ) → 0 < length s → entryAt s ≡ identified s (readVarint s)
+entry-some [] h = absurd (let z : ⊥ = omega arith in z)
+entry-some (b ∷ s) h = unfold entryAt in refl
 
 pub entry-whole : (s : List ℕ) (id k : ℕ) → 0 < length s → readVarint s ≡ Whole id k → entryAt s ≡ addressAt id (drop k s)
-unfolding entryAt identified
-entry-whole [] id k h e = absurd (let z : ⊥ = omega arith in z)
-entry-whole (b ∷ s) id k h e = rw e
+unfolding identified
+entry-whole s id k h e = entry-some s h ∙ rw e
 
 module _ (v : List ℕ) (at : ℕ) where
-  pub entry-end : at ≡ length v → EntryRead v at place.End
+  pub entry-end : length v ≤ at → EntryRead (entryAt (drop at v)) v at place.End
   unfolding entryAt placed
-  entry-end e = record { reads = rw (nothing-left v at e); inside = e }
+  entry-end h = record { reads = rw (drop-of-length-le v h); inside = tt }
 
-  pub entry-cut : at < length v → readVarint (drop at v) ≡ Incomplete → EntryRead v at place.Malformed
-  unfolding placed
-  entry-cut h e = record { reads = sym (entry-incomplete (drop at v) (omega (arith, length-drop at v)) e); inside = tt }
+  pub entry-cut : at < length v → readVarint (drop at v) ≡ Incomplete → EntryRead (entryAt (drop at v)) v at place.Malformed
+  unfolding placed identified
+  entry-cut h e = record { reads = sym (entry-some (drop at v) (omega (arith, length-drop at v)) ∙ rw e); inside = tt }
 
   pub id-within : (id k : ℕ) → readVarint (drop at v) ≡ Whole id k → k + at ≤ length v
   id-within id k e = let r = reads (drop at v) id k e in omega (arith, r .fits, r .some, length-drop at v)
 
-  pub entry-goes-on : (id k : ℕ) (r : Place) → at < length v → readVarint (drop at v) ≡ Whole id k → AddressRead v id (at + k) r → EntryRead v at r
+  pub entry-goes-on : (id k : ℕ) (r : Place) → at < length v → readVarint (drop at v) ≡ Whole id k → EntryRead (addressAt id (drop (at + k) v)) v (at + k) r → EntryRead (entryAt (drop at v)) v at r
   entry-goes-on id k r h e a =
       record {
         reads = a .reads ∙ rw (← (drop-drop k at v)) (sym (entry-whole (drop at v) id k (omega (arith, length-drop at v)) e));
-        inside = within r (a .inside);
+        inside = nearer r (a .inside);
       }
     where
-      within : (r : Place) → Within v (at + k) r → Inside v at r
-      within place.End i = absurd i
-      within place.Malformed i = tt
-      within (place.Entry d n b w) i = (omega (arith, i .0), i .1, i .2, i .3)
+      nearer : (r : Place) → Inside v (at + k) r → Inside v at r
+      nearer place.End i = tt
+      nearer place.Malformed i = tt
+      nearer (place.Entry d n b w) i = (omega (arith, i .0), i .1, i .2, i .3)
 
 -- ---- ranges
 
@@ -194,98 +177,56 @@ pub record RangeFront (v rest : List ℕ) (r : Range) : Type 0 where
 
 pub range-front : (v rest : List ℕ) (r : Range) → rangeAt v ≡ next r rest → RangeFront v rest r
 unfolding rangeAt
-range-front [] rest r p = end-next refl p
-range-front (b ∷ v) rest r p = go (ltb 0 (widthOf b) && ltb (widthOf b + widthOf b) (length v)) refl p
-  where
-    go : (t : Bool) → ltb 0 (widthOf b) && ltb (widthOf b + widthOf b) (length v) ≡ t
-        → _≡_ {A = Step Range} (cond t (next (record { version = b; start = num (take (widthOf b) v); end = num (take (widthOf b) (drop (widthOf b) v)); protocol = getD v (widthOf b + widthOf b) 0 }) (drop (widthOf b + widthOf b + 1) v)) malformed) (next r rest)
-        → RangeFront (b ∷ v) rest r
-    go true d q =
-        let w = widthOf b in
-        let t = both (ltb 0 w) (ltb (w + w) (length v)) d in
-        let l = ltb-true (w + w) (length v) (t .1) in
-        let isR : _≡_ {A = Range} (record { version = b; start = num (take w v); end = num (take w (drop w v)); protocol = getD v (w + w) 0 }) r = cc in
-        let isRest : drop (w + w + 1) v ≡ rest = cc in
-        rw (← isR, ← isRest)
-        (record {
-          start = take w v;
-          end = take w (drop w v);
-          some = ltb-true 0 w (t .0);
-          isStart = refl;
-          isEnd = refl;
-          startWidth = length-take-le w v (omega arith);
-          endWidth = length-take-le w (drop w v) (omega (arith, length-drop w v));
-          bytes = λ h. (bytes-take w v (h .1), bytes-take w (drop w v) (bytes-drop w v (h .1)));
-          joins = ap (λ (s : List ℕ). b ∷ s) (split-at v (w + w) 0 l ∙ rw (take-add w w v, add-one (w + w)) (regroup (take w v) (take w (drop w v)) (getD v (w + w) 0) (drop (suc (w + w)) v)));
-        })
-    go false d q = malformed-next refl q
+range-front [] rest r p = impossible (cc)
+range-front (b ∷ v) rest r p =
+    let w = widthOf b in
+    let t = passed w (w + w) (length v) (record { version = b; start = num (take w v); end = num (take w (drop w v)); protocol = getD v (w + w) 0 }) (drop (w + w + 1) v) not-malformed p in
+    let q = t .2 in
+    let l = t .1 in
+    let isR : _≡_ {A = Range} (record { version = b; start = num (take w v); end = num (take w (drop w v)); protocol = getD v (w + w) 0 }) r = cc in
+    let isRest : drop (w + w + 1) v ≡ rest = cc in
+    rw (← isR, ← isRest)
+    (record {
+      start = take w v;
+      end = take w (drop w v);
+      some = t .0;
+      isStart = refl;
+      isEnd = refl;
+      startWidth = length-take-le w v (omega arith);
+      endWidth = length-take-le w (drop w v) (omega (arith, length-drop w v));
+      bytes = λ h. (bytes-take w v (h .1), bytes-take w (drop w v) (bytes-drop w v (h .1)));
+      joins = ap (λ (s : List ℕ). b ∷ s) (split-at v (w + w) 0 l ∙ rw (take-add w w v, add-one (w + w)) (regroup (take w v) (take w (drop w v)) (getD v (w + w) 0) (drop (suc (w + w)) v)));
+    })
 
-pub range-shrinks : (v rest : List ℕ) (r : Range) → rangeAt v ≡ next r rest → length rest < length v
+pub range-shrinks : Shrinks rangeAt
 range-shrinks v rest r p =
     let f = range-front v rest r p in
     omega (arith, simp length-append at (ap length (f .joins)))
 
-module _ (v : List ℕ) (at : ℕ) where
-  pub range-end : at ≡ length v → RangeRead v at range-place.End
-  unfolding rangeAt rangePlaced
-  range-end e = record { reads = rw (nothing-left v at e); inside = e }
+pub range-not-end {ℓ} : {X : Type ℓ} (b : ℕ) (v : List ℕ) → rangeAt (b ∷ v) ≡ done → X
+unfolding rangeAt
+range-not-end b v p = not-end (widthOf b) (widthOf b + widthOf b) (length v) _ _ p
 
-  range-cons : at < length v → let w = widthOf (getD v at 0) in
-      rangeAt (drop at v) ≡ cond (ltb 0 w && ltb (w + w) (length v - (at + 1))) (next (rangeIn v at w) (drop (at + (w + w + 2)) v)) malformed
+module _ (v : List ℕ) (at : ℕ) where
+  abbrev width₂ : ℕ
+  width₂ = widthOf (getD v at 0)
+
+  range-cons : at < length v → rangeAt (drop at v) ≡ tested width₂ (width₂ + width₂) (length v - (at + 1)) (rangeIn v at width₂) (drop (at + (width₂ + width₂ + 2)) v)
   unfolding rangeAt rangeIn
   range-cons h =
-      let w = widthOf (getD v at 0) in
+      let w : ℕ = width₂ in
       let n : suc at + (w + w + 1) ≡ at + (w + w + 2) = omega arith in
       let m : suc at + (w + w) ≡ at + 1 + w + w = omega arith in
       rw (drop-cons v at 0 h, length-drop (suc at) v, getD-drop (suc at) v (w + w) 0, drop-drop (w + w + 1) (suc at) v, drop-drop w (suc at) v, n, m, add-one at)
 
-  pub range-no-version : at < length v → 0 ≡ widthOf (getD v at 0) → RangeRead v at range-place.Malformed
+  pub range-end : length v ≤ at → RangeRead v at range-place.End
+  unfolding rangeAt rangePlaced
+  range-end h = record { reads = rw (drop-of-length-le v h); inside = tt }
+
+  pub range-short : at < length v → (0 < width₂ → width₂ + width₂ < length v - (at + 1) → ⊥) → RangeRead v at range-place.Malformed
   unfolding rangePlaced
-  range-no-version h e = record { reads = sym (range-cons h ∙ rw (← e)); inside = tt }
+  range-short h f = record { reads = sym (range-cons h ∙ fails width₂ (width₂ + width₂) _ _ _ f); inside = tt }
 
-  pub range-short : at < length v → 0 < widthOf (getD v at 0) → length v - (at + 1) ≤ widthOf (getD v at 0) + widthOf (getD v at 0) → RangeRead v at range-place.Malformed
+  pub range-whole : at < length v → 0 < width₂ → width₂ + width₂ < length v - (at + 1) → width₂ ≤ 16 → RangeRead v at (range-place.Range width₂)
   unfolding rangePlaced
-  range-short h p e = record { reads = sym (range-cons h ∙ rw (lt-ltb 0 (widthOf (getD v at 0)) p, le-ltb (widthOf (getD v at 0) + widthOf (getD v at 0)) (length v - (at + 1)) e)); inside = tt }
-
-  pub range-whole : at < length v → 0 < widthOf (getD v at 0) → widthOf (getD v at 0) + widthOf (getD v at 0) < length v - (at + 1) → widthOf (getD v at 0) ≤ 16
-      → RangeRead v at (range-place.Range (widthOf (getD v at 0)))
-  unfolding rangePlaced
-  range-whole h p e l =
-      record {
-        reads = sym (range-cons h ∙ rw (lt-ltb 0 (widthOf (getD v at 0)) p, lt-ltb (widthOf (getD v at 0) + widthOf (getD v at 0)) (length v - (at + 1)) e));
-        inside = (omega arith, refl, l);
-      }
-
--- ---- what was read, by the answer
-
-module _ (v : List ℕ) (at : ℕ) (r : Place) (h : EntryRead v at r) where
-  pub entry-ended : r ≡ place.End → entryAt (drop at v) ≡ done
-  unfolding placed
-  entry-ended e = sym ((rw e at h) .reads)
-
-  pub entry-malformed : r ≡ place.Malformed → entryAt (drop at v) ≡ malformed
-  unfolding placed
-  entry-malformed e = sym ((rw e at h) .reads)
-
-  pub entry-given : (id n a w : ℕ) → r ≡ place.Entry id n a w → entryAt (drop at v) ≡ next (entryIn v id n a w) (drop (a + w + 1) v)
-  unfolding placed
-  entry-given id n a w e = sym ((rw e at h) .reads)
-
-  pub entry-inside : (id n a w : ℕ) → r ≡ place.Entry id n a w → (at < a) × (a + w < length v) × (w ≡ widthOf n) × (w ≤ 16)
-  entry-inside id n a w e = (rw e at h) .inside
-
-module _ (v : List ℕ) (at : ℕ) (r : RangePlace) (h : RangeRead v at r) where
-  pub range-ended : r ≡ range-place.End → rangeAt (drop at v) ≡ done
-  unfolding rangePlaced
-  range-ended e = sym ((rw e at h) .reads)
-
-  pub range-malformed : r ≡ range-place.Malformed → rangeAt (drop at v) ≡ malformed
-  unfolding rangePlaced
-  range-malformed e = sym ((rw e at h) .reads)
-
-  pub range-given : (w : ℕ) → r ≡ range-place.Range w → rangeAt (drop at v) ≡ next (rangeIn v at w) (drop (at + (w + w + 2)) v)
-  unfolding rangePlaced
-  range-given w e = sym ((rw e at h) .reads)
-
-  pub range-inside : (w : ℕ) → r ≡ range-place.Range w → (at + (w + w + 2) ≤ length v) × (w ≡ widthOf (getD v at 0)) × (w ≤ 16)
-  range-inside w e = (rw e at h) .inside
+  range-whole h p e l = record { reads = sym (range-cons h ∙ passes width₂ (width₂ + width₂) _ _ _ p e); inside = (omega arith, refl, l) }

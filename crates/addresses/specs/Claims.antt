@@ -1,30 +1,15 @@
 -- What holds of the definitions: each claim is a type here, and is proved in proofs/ under the name given.
 use mathlib.Core.Path.{_≡_}
-use mathlib.Core.Bool.{Bool, true, _&&_}
 use mathlib.Core.Option.{some, Option·map}
 use Prim.Native.Nat.{ℕ, _-_, _*_, _%_, _^_, _≤_, _<_}
 use mathlib.Core.List.{List, [], _∷_, map}
-use lib.ListN.{length, drop}
+use lib.ListN.{length}
 use lib.Dec.{eqb}
 use Rattle.wire.specs.Bytes.{Bytes, num}
 use Rattle.wire.specs.Varint.{leastWidth}
-use Rattle.addresses.specs.declared.Cursor.{Cursor}
-use Rattle.addresses.specs.Addresses.{Step, entries, allOf, widthOf, Entry, entryAt, clearBeyond, Range, rangeAt, goodRange, before, inOrder, goodRanges}
+use Rattle.addresses.specs.Addresses.{Step, entries, widthOf, Entry, entryAt, clearBeyond, Range, rangeAt}
 use Rattle.addresses.specs.Encoding.{entryBytes, rangeBytes, valueBytes}
 use Rattle.addresses.specs.Sizes.{SizedEntry, sizedAt, sizedBytes}
-use Rattle.addresses.specs.Handing.{Answer, handedFrom, addressOf, addressCall, rangeOf, rangeCall}
-use Rattle.addresses.specs.Pass.{nothing, pass}
-
--- ---- handing out (proofs/Stepping.antt)
-
--- from any place: calls, each where the one before it ended, hand out the entries of what is left there, and end malformed
--- exactly if that is malformed; one more than bytes are left is enough
-abbrev pub HandsOut : {A B : Type 0} → (List ℕ → Step A) → (A → B) → (List ℕ → Cursor → Answer B) → Type 0
-HandsOut read form call =
-    (v : List ℕ) (c : Cursor) (calls : ℕ) → length (drop (c .at) v) < calls → handedFrom (call v) calls c ≡ Option·map (map form) (entries read (drop (c .at) v))
-
-abbrev pub SteppedExactly : Type 0
-SteppedExactly = HandsOut entryAt addressOf addressCall × HandsOut rangeAt rangeOf rangeCall
 
 -- ---- values and their entries (proofs/Encoding.antt, proofs/ReadBack.antt)
 
@@ -72,21 +57,6 @@ Decides {A} read = (u v : List ℕ) (es : List A) → Bytes u → Bytes v → en
 
 abbrev pub EntriesDecide : Type 0
 EntriesDecide = Decides sizedAt × Decides rangeAt
-
--- ---- the rule of ranges (proofs/Order.antt, proofs/Pairs.antt)
-
--- of every two, the earlier first
-unfoldable pub everyTwo : (Range → Range → Bool) → List Range → Bool
-everyTwo good [] = true
-everyTwo good (a ∷ rs) = allOf (good a) rs && everyTwo good rs
-
--- order of neighbours is order of every two, if each range's start is at most its end
-abbrev pub NeighboursDecide : Type 0
-NeighboursDecide = (rs : List Range) → allOf goodRange rs ≡ true → inOrder rs ≡ everyTwo before rs
-
--- one pass that remembers the range before, and the ranges of its version, checks the rule
-abbrev pub PassIsRule : Type 0
-PassIsRule = (rs : List Range) → goodRanges rs ≡ pass nothing rs
 
 -- ---- bits beyond a prefix (proofs/Bits.antt)
 

@@ -1,8 +1,6 @@
 pub mod Addresses
 pub mod Encoding
 pub mod Sizes
-pub mod Handing
+pub mod Places
 pub mod Claims
 pub mod Cases
-pub mod Pass
-pub mod Places

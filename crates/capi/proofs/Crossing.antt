@@ -14,21 +14,13 @@ use denote.Struct.Laws as LL
 use denote.Enum.Declared as ED
 use denote.Enum.Enum.{layout as enum-layout}
 use denote.Enum.Laws as EL
-use Rattle.wire.specs.declared.varint.Written.{Written}
-use Rattle.wire.specs.Writing.{Writing, writing}
+use Rattle.capi.proofs.Terms.{Written, Writing, writing, at-local, Fact, Ensures, calls-ensuring, taking, takes-last, WrittenAnswer, writtenAnswer, wrote, wroteBy, streamId}
 use Rattle.wire.proofs.units.StreamId as N
 use Rattle.wire.proofs.units.StreamId.Laws as N′
 use Rattle.wire.proofs.varint.Written as I
 use Rattle.wire.proofs.varint.Written.Laws as I′
-use Rattle.streams.proofs.Elements.{at-local}
-use Rattle.walks.proofs.Calling.{Fact, Ensures, calls-ensuring}
-use Rattle.walks.proofs.Passing.{taking, takes-last}
-use Rattle.crossing.specs.declared.varint.WrittenAnswer.{WrittenAnswer}
-use Rattle.crossing.specs.Varint.{writtenAnswer}
-use Rattle.capi.specs.Varint.{wrote, wroteBy}
-use Rattle.capi.specs.Table.{streamId}
-use Rattle.crossing.proofs.varint.WrittenAnswer as VA
-use Rattle.crossing.proofs.varint.WrittenAnswer.Laws as VA′
+use Rattle.answers.proofs.varint.WrittenAnswer as VA
+use Rattle.answers.proofs.varint.WrittenAnswer.Laws as VA′
 
 -- ---- plain data, of machine type `ty`
 

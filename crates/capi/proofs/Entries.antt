@@ -1,10 +1,7 @@
 -- Entries handed out (specs/Claims.antt). Assumes nothing.
 use Rattle.walks.proofs.Words.{ℕ, _<_, _≡_, refl, List, arith, length, drop, length-drop}
-use Rattle.addresses.specs.Addresses.{Step, done, malformed, next, entryAt, rangeAt}
-use Rattle.addresses.specs.Handing.{answerFor, answerAt, addressOf, blankAddress, addressAnswer, nextAddress, rangeOf, blankRange, rangeAnswer, nextRange}
-use Rattle.addresses.proofs.Reading.{entry-shrinks, range-shrinks}
-use Rattle.crossing.specs.AddressCapsules.{foundNumber, cursor, addressFound, routeFound}
-use Rattle.capi.specs.Claims.{GoesOn, EntriesGoOn}
+use Rattle.capi.proofs.Terms.{Step, done, malformed, entryAt, rangeAt, answerFor, answerAt, addressOf, blankAddress, addressAnswer, nextAddress, rangeOf, blankRange, rangeAnswer, nextRange, entry-shrinks, range-shrinks, foundNumber, cursor, addressFound, routeFound, GoesOn, EntriesGoOn}
+use Rattle.addresses.specs.Addresses.{next}
 
 module _ {A B : Type 0} (read : List ℕ → Step A) (shrinks : (v rest : List ℕ) (e : A) → read v ≡ next e rest → length rest < length v) (form : A → B) (blank : B) (v : List ℕ) (at : ℕ) where
   steps : (x : Step A) → read (drop at v) ≡ x → let a = answerFor form blank v (cursor at) x in GoesOn v at (foundNumber (a .found)) (a .next .at)

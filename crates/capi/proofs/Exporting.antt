@@ -4,16 +4,11 @@ use Rattle.walks.proofs.Words.{refl, ℕ, List, [], _∷_}
 use Rattle.walks.proofs.Walk.{URA, Name, Fn, Ty, named, erased, mut, w64, tyInt, tyRef, deref, field, local, valueLocal, place, copy, addrOf, aggregate, assign, call, seq, return, vint, Model, Heap, Closed, GhostRules, Running, givenOf, tables, _$_, !, move, drop, fsplit, fjoin, look, init, stop, hop, fld, from, load, addr, and-then, no-more, assigns, land, enter, alloc1, alloc0, params1, pass1, pass0, free0, agg, whole, sub, look-in, u64, uint-makes, Is, shows, pointee, now, Slot, mutSliceOf, plain, sliceTy, slice-vals, facts, nothing, owned, Triple}
 use prog.Routine.{Env}
 use denote.Struct.Laws as LL
-use Rattle.wire.specs.declared.units.StreamId.{StreamId}
+use Rattle.capi.proofs.Terms.{StreamId, Table, Fact, Ensures, given-data, calls-data, Param, word, changed, passing, taking, clears, ends-owning, meets-passing, streamId}
 use Rattle.wire.proofs.units.StreamId as N
 use Rattle.wire.proofs.units.StreamId.Laws as N′
-use Rattle.streams.specs.Tables.{Table}
-use Rattle.streams.proofs.record.StreamRecord as R
-use Rattle.streams.proofs.record.StreamRecord.Laws as R′
-use Rattle.walks.proofs.Calling.{Fact, Ensures}
-use Rattle.walks.proofs.Calls.{given-data, calls-data}
-use Rattle.walks.proofs.Passing.{Param, word, changed, passing, taking, clears, ends-owning, meets-passing}
-use Rattle.capi.specs.Table.{streamId}
+use Rattle.stream_records.proofs.record.StreamRecord as R
+use Rattle.stream_records.proofs.record.StreamRecord.Laws as R′
 use Rattle.capi.proofs.Crossing.{Data, identifies, called, Said, answers}
 
 -- #read reads a number as a P, #change answers an E, and #say makes it an O

@@ -1,28 +1,8 @@
 -- Payloads and writers (specs/Claims.antt). Assumes nothing.
-use Rattle.walks.proofs.Words.{ℕ, _+_, _-_, _≤_, _≡_, refl, Bool, true, false, cond, _&&_, List, arith, length, take, drop, length-drop, take-all, sets, leb}
-use Rattle.refusals.specs.declared.Refusal.{Refusal}
-use Rattle.refusals.specs.Numbers.{numberTooLarge, frameTooLong}
-use Rattle.wire.specs.declared.units.Quarter.{Quarter}
-use Rattle.wire.specs.declared.varint.Varint.{Varint}
-use Rattle.wire.specs.declared.varint.Varint.the-variants.{Incomplete, Whole}
-use Rattle.wire.specs.declared.varint.Written.the-variants.{Wrote}
-use Rattle.wire.specs.Varint.{largest, readVarint, encode}
-use Rattle.wire.specs.Writing.{Writing, writing, refuses, writeAt, writeVarint}
-use Rattle.wire.proofs.Reading.{reads}
-use Rattle.datagram.specs.declared.judge.Judged.{Judged}
-use Rattle.datagram.specs.declared.judge.Judged.the-variants.{Refused, ShortFrame, QuarterTooLarge, BeyondLimit, NoStream, ReceiveClosed, NoSemantics, TooLong, Delivered}
-use Rattle.datagram.specs.Judging.{isDelivered, ifDelivered, afterQuarter, judgedOf, payloadOf}
-use Rattle.datagram.specs.declared.write.Sending.{Sending}
-use Rattle.datagram.specs.declared.write.Sending.the-variants as sending
-use Rattle.datagram.specs.Sending.{capsuleHeader, capsuleBytes, frameBytes, agreed, putCapsule, putCapsuleHeader, putFrame, putFrameHeader, capsuleWritten, frameWritten, frameHeaderWritten, sendingOf, writeCapsule, writeFrame, writeFrameHeader}
-use Rattle.addresses.specs.Addresses.{route, allOf, wellFormed}
-use Rattle.addresses.specs.Encoding.{entryBytes, rangeBytes, valueBytes}
-use Rattle.address_writer.specs.Rows.{entrySize, rangeSize, isWhole, entriesIn, rangesIn}
-use Rattle.address_writer.specs.Writer.{capsuleOf, writeValue, idFits, writeAddresses, writeRoutes}
-use Rattle.crossing.specs.Varint.{writtenAnswer}
-use Rattle.capi.specs.Varint.{wroteBy}
-use Rattle.crossing.specs.Frames.{deliveredAnswer, judgedAnswer}
-use Rattle.capi.specs.Claims.{PayloadPart, RefusalLeaves, RefusedWriteLeaves}
+use Rattle.walks.proofs.Words.{ℕ, _+_, _-_, _≤_, _≡_, refl, Bool, _&&_, List, [], arith, length, take, drop, length-drop, take-all}
+use Rattle.capi.proofs.Terms.{numberTooLarge, malformedToWrite, StreamId, Quarter, Varint, Incomplete, Whole, Written, Wrote, readVarint, Writing, Leaves, reads, refuses-leaves, if-leaves, at-leaves, varint-leaves, Judged, isDelivered, ifDelivered, afterQuarter, judgedOf, payloadOf, writers-leave, route, allOf, wellFormed, entryBytes, rangeBytes, valueBytes, entrySize, rangeSize, isWhole, entriesIn, rangesIn, idFits, capsuleOf, writeValue, writeAddresses, writeRoutes, writtenAnswer, wroteBy, deliveredAnswer, judgedAnswer, PayloadPart, RefusalLeaves, RefusedWriteLeaves}
+use Rattle.wire.specs.declared.varint.Written.the-variants.{Refused}
+use Rattle.judging.specs.declared.judge.Judged.the-variants as judged
 
 -- ---- the payload's part of the frame
 
@@ -39,15 +19,15 @@ module _ (frame : List ℕ) where
 
   part-judged : (j : Judged) → let a = judgedAnswer frame j in Part (a .start) (a .length) (ifDelivered j (afterQuarter (readVarint frame) frame))
   unfolding judgedAnswer ifDelivered isDelivered
-  part-judged (Refused why) = (omega arith, refl)
-  part-judged ShortFrame = (omega arith, refl)
-  part-judged (QuarterTooLarge q) = (omega arith, refl)
-  part-judged (BeyondLimit q) = (omega arith, refl)
-  part-judged (NoStream q) = (omega arith, refl)
-  part-judged (ReceiveClosed q place) = (omega arith, refl)
-  part-judged (NoSemantics q place) = (omega arith, refl)
-  part-judged (TooLong q place) = (omega arith, refl)
-  part-judged (Delivered q place) = part-read q place (readVarint frame) refl
+  part-judged (judged.Refused why) = (omega arith, refl)
+  part-judged judged.ShortFrame = (omega arith, refl)
+  part-judged (judged.QuarterTooLarge q) = (omega arith, refl)
+  part-judged (judged.BeyondLimit q) = (omega arith, refl)
+  part-judged (judged.NoStream q) = (omega arith, refl)
+  part-judged (judged.ReceiveClosed q place) = (omega arith, refl)
+  part-judged (judged.NoSemantics q place) = (omega arith, refl)
+  part-judged (judged.TooLong q place) = (omega arith, refl)
+  part-judged (judged.Delivered q place) = part-read q place (readVarint frame) refl
 
 pub payload-part : PayloadPart
 unfolding payloadOf
@@ -55,74 +35,35 @@ payload-part t streams limit frame = part-judged frame (judgedOf t streams limit
 
 -- ---- a refusal leaves the output
 
+leaves : {bytes out : List ℕ} {place : ℕ} {w : Writing} → Leaves bytes out place w → RefusalLeaves w out
+unfolding wroteBy
+leaves {out = out} {w = w} l = go (w .answer) refl
+  where
+    go : (x : Written) → w .answer ≡ x → (writtenAnswer x .refusal ≡ 0 → ⊥) → w .output ≡ out
+    go (Refused why) e n = l .refused why e
+    go (Wrote count) e n = absurd (n (unfold writtenAnswer in refl))
+
 module _ (out : List ℕ) (place : ℕ) where
-  leaves-refused : (why : Refusal) → RefusalLeaves (refuses why out) out
-  unfolding refuses wroteBy
-  leaves-refused why n = refl
-
-  leaves-wrote : (count : ℕ) (after : List ℕ) → RefusalLeaves (writing (Wrote count) after) out
-  unfolding wroteBy writtenAnswer
-  leaves-wrote count after n = absurd (n refl)
-
-  leaves-if : (t : Bool) (x y : Writing) → RefusalLeaves x out → RefusalLeaves y out → RefusalLeaves (cond t x y) out
-  leaves-if true x y a b = a
-  leaves-if false x y a b = b
-
-  leaves-at : (bytes : List ℕ) → RefusalLeaves (writeAt bytes out place) out
-  unfolding writeAt
-  leaves-at bytes = leaves-if (leb (place + length bytes) (length out)) _ _ (leaves-wrote (length bytes) (sets out place bytes)) (leaves-refused _)
-
-  leaves-varint : (n : ℕ) → RefusalLeaves (writeVarint n out place) out
-  unfolding writeVarint
-  leaves-varint n = leaves-if (leb n largest) _ _ (leaves-at (encode n)) (leaves-refused _)
-
-  -- the writers of capsules and frames, whole or header: n is the payload's length
-  leaves-short : (n : ℕ) (w : Writing) → RefusalLeaves w out → RefusalLeaves (cond (leb n 65535) w (refuses numberTooLarge out)) out
-  leaves-short n w h = leaves-if (leb n 65535) _ _ h (leaves-refused _)
-
-  leaves-fit : (n size path : ℕ) (bytes : List ℕ) → RefusalLeaves (cond (leb n 65535) (cond (leb size path) (writeAt bytes out place) (refuses frameTooLong out)) (refuses numberTooLarge out)) out
-  leaves-fit n size path bytes = leaves-short n _ (leaves-if (leb size path) _ _ (leaves-at bytes) (leaves-refused _))
-
-  leaves-datagram : (payload : List ℕ) → RefusalLeaves (putCapsule payload out place) out
-  unfolding putCapsule
-  leaves-datagram payload = leaves-short (length payload) _ (leaves-at (capsuleBytes payload))
-
-  leaves-datagram-header : (n : ℕ) → RefusalLeaves (putCapsuleHeader n out place) out
-  unfolding putCapsuleHeader
-  leaves-datagram-header n = leaves-short n _ (leaves-at (capsuleHeader n))
-
-  leaves-capsule : (s : Sending) (payload : List ℕ) → RefusalLeaves (capsuleWritten s payload out place) out
-  unfolding capsuleWritten
-  leaves-capsule (sending.Refused why) payload = leaves-refused why
-  leaves-capsule (sending.To q) payload = leaves-datagram payload
-
-  leaves-frame : (s : Sending) (path : ℕ) (payload : List ℕ) → RefusalLeaves (frameWritten s path payload out place) out
-  unfolding frameWritten putFrame
-  leaves-frame (sending.Refused why) path payload = leaves-refused why
-  leaves-frame (sending.To q) path payload = leaves-fit (length payload) (length (frameBytes (q .0) payload)) path (frameBytes (q .0) payload)
-
-  leaves-frame-header : (s : Sending) (path n : ℕ) → RefusalLeaves (frameHeaderWritten s path n out place) out
-  unfolding frameHeaderWritten putFrameHeader
-  leaves-frame-header (sending.Refused why) path n = leaves-refused why
-  leaves-frame-header (sending.To q) path n = leaves-fit n (length (encode (q .0)) + n) path (encode (q .0))
-
-  leaves-value : (whole : Bool) (t : ℕ) (v : List ℕ) → RefusalLeaves (writeValue whole t v out place) out
+  value-leaves : (whole : Bool) (t : ℕ) (v : List ℕ) → Leaves (capsuleOf t v) out place (writeValue whole t v out place)
   unfolding writeValue
-  leaves-value whole t v = leaves-if (whole && wellFormed t v) _ _ (leaves-at (capsuleOf t v)) (leaves-refused _)
+  value-leaves whole t v = if-leaves _ out place (whole && wellFormed t v) (at-leaves (capsuleOf t v) out place) (refuses-leaves _ out place malformedToWrite)
 
-  leaves-addresses : (t : ℕ) (row : List ℕ) → RefusalLeaves (writeAddresses t row out place) out
+  addresses-leave : (t : ℕ) (row : List ℕ) → RefusalLeaves (writeAddresses t row out place) out
   unfolding writeAddresses
-  leaves-addresses t row = leaves-if (allOf idFits (entriesIn row)) _ _ (leaves-value (isWhole entrySize row) t (valueBytes entryBytes (entriesIn row))) (leaves-refused _)
+  addresses-leave t row =
+      let v = valueBytes entryBytes (entriesIn row) in
+      leaves (if-leaves (capsuleOf t v) out place (allOf idFits (entriesIn row)) (value-leaves (isWhole entrySize row) t v) (refuses-leaves _ out place numberTooLarge))
 
 pub refused-write-leaves : RefusedWriteLeaves
-unfolding writeCapsule writeFrame writeFrameHeader writeRoutes
-refused-write-leaves out place = (
-  λ n. leaves-varint out place n,
-  λ t id payload. leaves-capsule out place (sendingOf t id true) payload,
-  λ t id ours peers path payload. leaves-frame out place (sendingOf t id (agreed ours peers)) path payload,
-  λ t id ours peers path n. leaves-frame-header out place (sendingOf t id (agreed ours peers)) path n,
-  leaves-datagram out place,
-  leaves-datagram-header out place,
-  λ t row. leaves-addresses out place t row,
-  λ row. leaves-value out place (isWhole rangeSize row) route (valueBytes rangeBytes (rangesIn row)),
-)
+unfolding writeRoutes
+refused-write-leaves out place =
+    let none : StreamId = record { 0 = 0 } in (
+      λ n. leaves (varint-leaves n out place),
+      λ t id payload. leaves (writers-leave t id 0 0 0 0 payload out place .0),
+      λ t id ours peers path payload. leaves (writers-leave t id ours peers path 0 payload out place .1),
+      λ t id ours peers path n. leaves (writers-leave t id ours peers path n [] out place .2),
+      λ payload. leaves (writers-leave [] none 0 0 0 0 payload out place .3),
+      λ n. leaves (writers-leave [] none 0 0 0 n [] out place .4),
+      addresses-leave out place,
+      λ row. leaves (value-leaves out place (isWhole rangeSize row) route (valueBytes rangeBytes (rangesIn row))),
+    )

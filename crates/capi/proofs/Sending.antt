@@ -4,19 +4,8 @@ use Rattle.walks.proofs.Words.{_≡_, refl, subst, ℕ, suc, List, [], _∷_, _
 use Rattle.walks.proofs.Walk.{URA, Name, Fn, Ty, erased, mut, w8, w64, tyInt, tyRef, local, valueLocal, field, deref, place, copy, rvOpd, addrOf, aggregate, assign, call, seq, return, Val, vint, Model, Heap, Closed, Atoms, Lfts, GhostRules, Running, givenOf, tables, Given, _$_, !, move, drop, fsplit, fjoin, whole, sub, look-in, look, init, stop, fld, from, load, and-then, no-more, enter, alloc1, alloc0, params1, pass1, pass0, free0, Is, Lawful, Tells, Typed, shows, Denots, now, AllWithin, Slot, plain, typesAt, sliceTy, slice-vals, facts, nothing, Triple}
 use prog.Routine.{Env}
 use denote.Struct.Laws as LL
-use Rattle.wire.specs.declared.units.StreamId.{StreamId}
-use Rattle.wire.specs.Writing.{Writing, writing}
+use Rattle.capi.proofs.Terms.{StreamId, Writing, writing, Table, rowsTy, rowsAt, rows, Fact, Ensures, Param, datum, word, output, slots, values, passing, taking, clears, ends-owning, meets-passing, sent, writtenAnswer, wrote, wroteBy, streamId}
 use Rattle.wire.proofs.units.StreamId.Laws as N′
-use Rattle.streams.specs.Tables.{Table}
-use Rattle.streams.proofs.Elements.{rowsTy}
-use Rattle.streams.proofs.Querying.{rowsAt}
-use Rattle.streams.proofs.Answering.{rows}
-use Rattle.walks.proofs.Calling.{Fact, Ensures}
-use Rattle.walks.proofs.Passing.{Param, datum, word, output, slots, values, passing, taking, clears, ends-owning, meets-passing}
-use Rattle.datagram.proofs.Outgoing.{sent}
-use Rattle.crossing.specs.Varint.{writtenAnswer}
-use Rattle.capi.specs.Varint.{wrote, wroteBy}
-use Rattle.capi.specs.Table.{streamId}
 use Rattle.capi.proofs.frames.FrameTerms as L
 use Rattle.capi.proofs.frames.FrameTerms.Laws as L′
 use Rattle.capi.proofs.Crossing.{written, written-answer, worded, identifies, outTy, readies, called, Said, answers, said-written}

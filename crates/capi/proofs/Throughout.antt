@@ -1,16 +1,6 @@
 -- Lists of calls on a reader in words (specs/Claims.antt). Assumes nothing.
 use Rattle.walks.proofs.Words.{_≡_, refl, sym, ap, subst, _∙_, none, List, [], _∷_, ℕ}
-use Rattle.capsule.specs.declared.reader.Reader.{Reader}
-use Rattle.capsule.specs.Calls.{feed, close, Reply, run}
-use Rattle.capsule.specs.Book.{newBook, bookCall}
-use Rattle.capsule.specs.State.{ofBook}
-use Rattle.capsule.specs.Reader.{opening, fresh, feedOf, closeOf, readerCall}
-use Rattle.capsule_laws.specs.Claims.{HandedOn}
-use Rattle.capsule_laws.proofs.Lists.{open-fresh, demand-3}
-use Rattle.crossing.specs.Numbers.{roleOf, flagOf}
-use Rattle.crossing.specs.Words.{wordsOf}
-use Rattle.capi.specs.Reader.{feedWords, closeWords}
-use Rattle.capi.specs.Claims.{fedIn, closedIn, wordsCall, runWords, numbersOf, runNumbers, Throughout, Demand3InWords}
+use Rattle.capi.proofs.Terms.{Reader, feed, close, Reply, run, newBook, bookCall, ofBook, opening, fresh, feedOf, closeOf, readerCall, HandedOn, open-fresh, demand-3, roleOf, flagOf, wordsOf, feedWords, closeWords, fedIn, closedIn, wordsCall, runWords, numbersOf, runNumbers, Throughout, Demand3InWords}
 use Rattle.capi.proofs.Keeping.{open-kept, reader-kept}
 
 pub throughout : Throughout

@@ -1,72 +1,29 @@
 -- The numbers decide the answer, and what an answer does not have is 0 (specs/Told.antt). Assumes nothing.
 use Prim.{tt}
-use Rattle.walks.proofs.Words.{ℕ, _-_, _/_, _^_, _<_, Bool, true, false, cond, List, [], _∷_, _≡_, _∙_, refl, ap, arith, length, getD, leb, leb-true, ne-eqb, pow-pos}
-use Rattle.refusals.specs.declared.Refusal.{Refusal}
-use Rattle.wire.specs.declared.units.Quarter.{Quarter}
-use Rattle.wire.specs.declared.units.QuarterOf.{QuarterOf}
+use Rattle.walks.proofs.Words.{ℕ, _-_, _/_, _^_, _<_, Bool, true, false, cond, List, [], _∷_, _≡_, _∙_, refl, ap, arith, length, getD, leb, ltb, eqb, lt-ltb, ne-eqb, pow-pos}
+use Rattle.capi.proofs.Terms.{Refusal, unmakeableState, Quarter, QuarterOf, StreamOf, Varint, Incomplete, Whole, Written, sizeOf, readVarint, Delivered, Dropped, Skipped, Passed, AddressDelivered, Malformed, Ended, Nothing, Capsule, FeedAnswer, CloseAnswer, lengthOf, StreamOpened, SideClosed, Standing, Judged, ruleOf, Neither, Gathering, Addresses, Place, Looked, lookOf, Loaded, stored-read, lookWords, Listed, asClosed, ErrorOf, Translation, number, closeError, reportError, judgedError, Found, NextAddress, NextRange, LookAnswer, FedAnswer, JudgedAnswer, bitOf, errorNumber, endNumber, varintAnswer, writtenAnswer, reportNumber, typeOf, fedReport, fedTook, fedAnswer, closeRefusal, openedAt, openedAnswer, foundAnswer, orZero, deliveredAnswer, judgedAnswer, bufferNumber, sightAnswer, lookedAnswer, quarterAnswer, streamAnswer, endingNumber, listingAnswer, foundNumber, addressFound, routeFound, actionAnswer, translationAnswer, NotZero, Numbered, MalformedError, LookKept, refusedOr, bitIn, errorIn, varintIn, writtenIn, endedIn, lookedIn, streamIn, listedIn, openedIn, sideClosedIn, standingIn, ruleIn, translationIn, foundIn, addressIn, rangeIn, VarintSo, ErrorSo, AnswersTold, ElseZero}
 use Rattle.wire.specs.declared.units.QuarterOf.the-variants as quarterAs
-use Rattle.wire.specs.declared.units.StreamOf.{StreamOf}
 use Rattle.wire.specs.declared.units.StreamOf.the-variants as streamAs
-use Rattle.wire.specs.declared.varint.Varint.{Varint}
-use Rattle.wire.specs.declared.varint.Varint.the-variants.{Incomplete, Whole}
-use Rattle.wire.specs.declared.varint.Written.{Written}
 use Rattle.wire.specs.declared.varint.Written.the-variants as writtenAs
-use Rattle.wire.specs.Varint.{sizeOf, readVarint}
-use Rattle.opening.specs.declared.Report.the-variants.{Delivered, Dropped, Skipped, Passed, AddressDelivered, Malformed}
-use Rattle.capsule.specs.declared.reader.Ended.{Ended}
-use Rattle.capsule.specs.declared.reader.Ended.the-variants.{Nothing, Capsule}
-use Rattle.capsule.specs.declared.reader.FeedAnswer.{FeedAnswer}
 use Rattle.capsule.specs.declared.reader.FeedAnswer.the-variants as fedAs
-use Rattle.capsule.specs.declared.reader.CloseAnswer.{CloseAnswer}
 use Rattle.capsule.specs.declared.reader.CloseAnswer.the-variants as closedAs
-use Rattle.capsule.specs.Reader.{lengthOf}
-use Rattle.streams.specs.declared.table.Opening.{Opening}
-use Rattle.streams.specs.declared.table.Opening.the-variants as openingAs
-use Rattle.streams.specs.declared.table.Closing.{Closing}
-use Rattle.streams.specs.declared.table.Closing.the-variants as closingAs
-use Rattle.streams.specs.declared.table.Standing.{Standing}
-use Rattle.streams.specs.declared.table.Standing.the-variants as standingAs
-use Rattle.datagram.specs.declared.judge.Judged.{Judged}
-use Rattle.datagram.specs.declared.judge.Judged.the-variants as judged
-use Rattle.datagram.specs.Judging.{ruleOf, quarterIn as quarterOfRule, placeIn as placeOfRule}
-use Rattle.look.specs.declared.Buffer.{Buffer}
-use Rattle.look.specs.declared.Buffer.the-variants.{Neither, Gathering, Addresses}
-use Rattle.look.specs.declared.Place.{Place}
+use Rattle.stream_records.specs.declared.answers.StreamOpened.the-variants as openingAs
+use Rattle.stream_records.specs.declared.answers.SideClosed.the-variants as closingAs
+use Rattle.stream_records.specs.declared.answers.Standing.the-variants as standingAs
+use Rattle.judging.specs.declared.judge.Judged.the-variants as judged
+use Rattle.judging.specs.Judging.{quarterIn as quarterOfRule, placeIn as placeOfRule}
 use Rattle.look.specs.declared.Place.the-variants as place
-use Rattle.look.specs.declared.Looked.{Looked}
 use Rattle.look.specs.declared.Looked.the-variants as lookedAs
-use Rattle.listing.specs.declared.Ending.the-variants as ending
-use Rattle.listing.specs.declared.Listed.{Listed}
-use Rattle.listing.specs.declared.Listed.the-variants as listed
-use Rattle.listing.specs.Claims.{asClosed}
-use Rattle.http.specs.declared.errors.ErrorOf.{ErrorOf}
+use Rattle.reader_words.specs.declared.words.Loaded.the-variants as loaded
+use Rattle.one_shot_listing.specs.declared.Ending.the-variants as ending
+use Rattle.one_shot_listing.specs.declared.Listed.the-variants as listed
 use Rattle.http.specs.declared.errors.ErrorOf.the-variants as errorAs
-use Rattle.http.specs.declared.translation.Action.the-variants as action
-use Rattle.http.specs.declared.translation.Translation.{Translation}
-use Rattle.http.specs.declared.translation.Translation.the-variants as translation
-use Rattle.http.specs.Errors.{number}
-use Rattle.http.specs.Ties.{closeError, judgedError}
-use Rattle.addresses.specs.declared.Found.{Found}
-use Rattle.addresses.specs.declared.Found.the-variants as found
-use Rattle.addresses.specs.declared.NextAddress.{NextAddress}
-use Rattle.addresses.specs.declared.NextRange.{NextRange}
-use Rattle.crossing.specs.declared.sight.LookAnswer.{LookAnswer}
-use Rattle.crossing.specs.declared.frames.JudgedAnswer.{JudgedAnswer}
-use Rattle.crossing.specs.Numbers.{bitOf, errorNumber, endNumber}
-use Rattle.crossing.specs.Varint.{varintAnswer, writtenAnswer}
-use Rattle.crossing.specs.Reader as reader
-use Rattle.crossing.specs.Reader.{reportNumber, typeOf, fedReport, fedTook, fedAnswer, closeRefusal}
-use Rattle.capi.specs.Reader.{openedAt}
-use Rattle.crossing.specs.Table as table
-use Rattle.crossing.specs.Table.{openedAnswer, foundAnswer}
-use Rattle.crossing.specs.Frames.{orZero, deliveredAnswer, judgedAnswer}
-use Rattle.crossing.specs.Sight.{bufferNumber, sightAnswer, lookedAnswer}
-use Rattle.crossing.specs.Identifiers.{quarterAnswer, streamAnswer}
-use Rattle.crossing.specs.OneShot.{endingNumber, listingAnswer}
-use Rattle.crossing.specs.AddressCapsules.{foundNumber, addressFound, routeFound}
-use Rattle.crossing.specs.Messages.{actionAnswer, translationAnswer}
-use Rattle.capi.specs.Claims.{NotZero, FedSo, ClosedSo, LookedSo, ListedSo, WrittenSo, OpeningSo, StandingSo, ClosingSo, JudgedSo, TranslatedSo}
-use Rattle.capi.specs.Told.{refusedOr, bitIn, errorIn, varintIn, writtenIn, endedIn, fedIn, closedIn, placeIn, lookedIn, quarterIn, streamIn, listedIn, openedIn, sideClosedIn, standingIn, ruleIn, judgedIn, translationIn, foundIn, addressIn, rangeIn, VarintSo, ErrorSo, AnswersTold, ElseZero}
+use Rattle.http_errors.specs.declared.translation.Action.the-variants as action
+use Rattle.http_errors.specs.declared.translation.Translation.the-variants as translation
+use Rattle.address_cursor.specs.declared.Found.the-variants as found
+use Rattle.reader_answers.specs.Reader as reader
+use Rattle.stream_answers.specs.Table as table
+use Rattle.capi.specs.Told.{fedIn, closedIn, placeIn, quarterIn, judgedIn}
 
 -- ---- readings
 
@@ -98,13 +55,20 @@ size (b ∷ s) = go (leb (2 ^ (b / 64)) (length (b ∷ s))) _
     go true value = λ z. let n : ⊥ = omega (arith, pow-pos (b / 64), z) in n
     go false value = tt
 
-writing : (a : Written) → WrittenSo a → writtenIn (writtenAnswer a) ≡ a
+writing : (a : Written) → Numbered writtenAs.Refused a → writtenIn (writtenAnswer a) ≡ a
 unfolding writtenIn writtenAnswer refusedOr
-writing (writtenAs.Refused why) n = refused why writtenAs.Refused (writtenAs.Wrote 0) n
+writing (writtenAs.Refused why) n = refused why writtenAs.Refused _ (n why refl)
 writing (writtenAs.Wrote count) n = refl
 
-took : (consumed written : ℕ) (e : Ended) → fedIn (fedTook consumed written e) ≡ fedAs.Took consumed written e
-unfolding fedIn fedTook fedReport endedIn reportNumber typeOf lengthOf refusedOr
+-- what was taken: its reading, and what a report does not have; the error is that of a malformed capsule
+abbrev Took : Type 0
+Took = FeedAnswer × ℕ × ℕ × ℕ
+
+abbrev tookIn : FedAnswer → Took
+tookIn f = (fedIn f, cond (ltb (f .report) 3) (f .ctype) 0, cond (ltb (f .report) 1) (f .length) 0, f .error)
+
+took : (consumed written : ℕ) (e : Ended) → let f = fedTook consumed written e in tookIn f ≡ (fedAs.Took consumed written e, 0, 0, cond (eqb (f .report) 6) 7 0)
+unfolding fedIn fedTook fedReport endedIn reportNumber typeOf lengthOf refusedOr reportError errorNumber number
 took consumed written Nothing = refl
 took consumed written (Capsule (Delivered n)) = refl
 took consumed written (Capsule (Dropped n)) = refl
@@ -113,48 +77,47 @@ took consumed written (Capsule (Passed t n)) = refl
 took consumed written (Capsule (AddressDelivered t n)) = refl
 took consumed written (Capsule (Malformed t n)) = refl
 
-feeding : (a : FeedAnswer) → FedSo a → fedIn (fedAnswer a) ≡ a
+feeding : (a : FeedAnswer) → Numbered fedAs.Refused a → fedIn (fedAnswer a) ≡ a
 unfolding fedAnswer fedIn
-feeding (fedAs.Refused why) n = refused why fedAs.Refused _ n
-feeding (fedAs.Took consumed written e) n = took consumed written e
+feeding (fedAs.Refused why) n = refused why fedAs.Refused _ (n why refl)
+feeding (fedAs.Took consumed written e) n = ap (λ (x : Took). x .0) (took consumed written e)
 
-closing : (a : CloseAnswer) → ClosedSo a → closedIn (reader.closedAnswer a) ≡ a
-unfolding closedIn reader.closedAnswer closeRefusal endNumber refusedOr
-closing (closedAs.Refused why) n = refused why closedAs.Refused _ n
-closing closedAs.Clean n = refl
-closing closedAs.Truncated n = refl
+pub malformed-error : MalformedError
+unfolding fedAnswer
+malformed-error (fedAs.Refused why) = refl
+malformed-error (fedAs.Took consumed written e) = ap (λ (x : Took). x .3) (took consumed written e)
 
-buffer :
-    (finished : Bool) (limit t n toCome gathered : ℕ) (b : Buffer)
-    → placeIn (sightAnswer finished limit (place.InValue t n toCome gathered b)) ≡ place.InValue t n toCome gathered b
+closing : (a : CloseAnswer) → let c = reader.closedAnswer a in (Numbered closedAs.Refused a → closedIn c ≡ a) × (c .error ≡ getD (0 ∷ 0 ∷ 1 ∷ []) (c .end) 0)
+unfolding closedIn reader.closedAnswer closeRefusal endNumber refusedOr closeError errorNumber number
+closing (closedAs.Refused why) = (λ n. refused why closedAs.Refused _ (n why refl), refl)
+closing closedAs.Clean = (λ n. refl, refl)
+closing closedAs.Truncated = (λ n. refl, refl)
+
+-- what is seen: the numbers of every place, the place itself, and what a place does not have
+abbrev inValue : LookAnswer → ℕ → ℕ
+inValue l n = cond (ltb (l .field) 3) n 0
+
+abbrev Seen : Type 0
+Seen = ℕ × ℕ × ℕ × Place × ℕ × ℕ × ℕ × ℕ × ℕ
+
+abbrev seenIn : LookAnswer → Seen
+seenIn l = (l .refusal, l .finished, l .«datagram_limit», placeIn l, cond (ltb (l .field) 2) (l .«capsule_type») 0, inValue l (l .length), inValue l (l .«to_come»), inValue l (l .gathered), inValue l (l .buffer))
+
+seen : (finished : Bool) (limit : ℕ) (p : Place) → seenIn (sightAnswer finished limit p) ≡ (0, bitOf finished, limit, p, 0, 0, 0, 0, 0)
 unfolding placeIn sightAnswer bufferNumber
-buffer finished limit t n toCome gathered Neither = refl
-buffer finished limit t n toCome gathered Gathering = refl
-buffer finished limit t n toCome gathered Addresses = refl
-
-place-seen : (finished : Bool) (limit : ℕ) (p : Place) → placeIn (sightAnswer finished limit p) ≡ p
-unfolding placeIn sightAnswer
-place-seen finished limit place.Between = refl
-place-seen finished limit place.InType = refl
-place-seen finished limit (place.InLength t) = refl
-place-seen finished limit (place.InValue t n toCome gathered b) = buffer finished limit t n toCome gathered b
-
-seen :
-    (finished : Bool) (limit : ℕ) (p : Place)
-    → lookedIn (sightAnswer finished limit p) ≡ lookedAs.Seen (record { finished = bitIn (bitOf finished); limit = limit; place = placeIn (sightAnswer finished limit p) })
-unfolding lookedIn sightAnswer refusedOr
 seen finished limit place.Between = refl
 seen finished limit place.InType = refl
 seen finished limit (place.InLength t) = refl
-seen finished limit (place.InValue t n toCome gathered b) = refl
+seen finished limit (place.InValue t n toCome gathered Neither) = refl
+seen finished limit (place.InValue t n toCome gathered Gathering) = refl
+seen finished limit (place.InValue t n toCome gathered Addresses) = refl
 
-look : (a : Looked) → LookedSo a → lookedIn (lookedAnswer a) ≡ a
+look : (a : Looked) → Numbered lookedAs.Refused a → lookedIn (lookedAnswer a) ≡ a
 unfolding lookedAnswer lookedIn
-look (lookedAs.Refused why) n = refused why lookedAs.Refused _ n
+look (lookedAs.Refused why) n = refused why lookedAs.Refused _ (n why refl)
 look (lookedAs.Seen s) n =
-    seen (s .finished) (s .limit) (s .place)
-    ∙ ap (λ (b : Bool). lookedAs.Seen (record { finished = b; limit = s .limit; place = placeIn (sightAnswer (s .finished) (s .limit) (s .place)) })) (bit (s .finished))
-    ∙ ap (λ (p : Place). lookedAs.Seen (record { finished = s .finished; limit = s .limit; place = p })) (place-seen (s .finished) (s .limit) (s .place))
+    ap (λ (x : Seen). refusedOr (x .0) lookedAs.Refused (lookedAs.Seen (record { finished = bitIn (x .1); limit = x .2; place = x .3 }))) (seen (s .finished) (s .limit) (s .place))
+    ∙ unfold refusedOr in ap (λ (b : Bool). lookedAs.Seen (record { finished = b; limit = s .limit; place = s .place })) (bit (s .finished))
 
 quarter : (a : QuarterOf) → quarterIn (quarterAnswer a) ≡ a
 unfolding quarterIn quarterAnswer
@@ -166,52 +129,60 @@ unfolding streamIn streamAnswer bitIn
 stream streamAs.TooLarge = refl
 stream (streamAs.Is id) = refl
 
-listing : (a : Listed) → ListedSo a → listedIn (listingAnswer a) ≡ a
+listing : (a : Listed) → Numbered listed.Refused a → listedIn (listingAnswer a) ≡ a
 unfolding listedIn listingAnswer endingNumber asClosed endNumber refusedOr
-listing (listed.Refused why) n = refused why listed.Refused _ n
+listing (listed.Refused why) n = refused why listed.Refused _ (n why refl)
 listing (listed.Counted capsules headers ending.Clean) n = refl
 listing (listed.Counted capsules headers ending.Truncated) n = refl
 
-opening : (a : Opening) → OpeningSo a → openedIn (openedAnswer a) ≡ a
+opening : (a : StreamOpened) → Numbered openingAs.Refused a → openedIn (openedAnswer a) ≡ a
 unfolding openedIn openedAnswer refusedOr
-opening (openingAs.Refused why) n = refused why openingAs.Refused _ n
+opening (openingAs.Refused why) n = refused why openingAs.Refused _ (n why refl)
 opening (openingAs.Opened i) n = refl
 
-side : (a : Closing) → ClosingSo a → sideClosedIn (table.closedAnswer a) ≡ a
+side : (a : SideClosed) → Numbered closingAs.Refused a → sideClosedIn (table.closedAnswer a) ≡ a
 unfolding sideClosedIn table.closedAnswer refusedOr
-side (closingAs.Refused why) n = refused why closingAs.Refused _ n
+side (closingAs.Refused why) n = refused why closingAs.Refused _ (n why refl)
 side (closingAs.Closed i freed) n = ap (closingAs.Closed i) (bit freed)
 
-standing : (a : Standing) → StandingSo a → standingIn (foundAnswer a) ≡ a
+standing : (a : Standing) → Numbered standingAs.Refused a → standingIn (foundAnswer a) ≡ a
 unfolding standingIn foundAnswer refusedOr
-standing (standingAs.Refused why) n = refused why standingAs.Refused _ n
+standing (standingAs.Refused why) n = refused why standingAs.Refused _ (n why refl)
 standing (standingAs.At i) n = refl
 
--- whether its quarter is read again or not, a delivered one is told
-delivered : (frame : List ℕ) (q : Quarter) (i : ℕ) (v : Varint) → judgedIn (deliveredAnswer q i frame v) ≡ judged.Delivered q i
-unfolding judgedIn ruleIn deliveredAnswer orZero ruleOf quarterOfRule placeOfRule refusedOr
-delivered frame q i Incomplete = refl
-delivered frame q i (Whole n size) = refl
+-- of a judgement: its reading, and for all rules at once the error and what a rule does not have
+abbrev Rest : Type 0
+Rest = ℕ × ℕ × ℕ × ℕ × ℕ
 
-judgement : (frame : List ℕ) (a : Judged) → JudgedSo a → judgedIn (judgedAnswer frame a) ≡ a
-unfolding judgedIn ruleIn judgedAnswer orZero ruleOf quarterOfRule placeOfRule refusedOr
-judgement frame (judged.Refused why) n = refused why judged.Refused _ n
-judgement frame judged.ShortFrame n = refl
-judgement frame (judged.QuarterTooLarge q) n = refl
-judgement frame (judged.BeyondLimit q) n = refl
-judgement frame (judged.NoStream q) n = refl
-judgement frame (judged.ReceiveClosed q i) n = refl
-judgement frame (judged.NoSemantics q i) n = refl
-judgement frame (judged.TooLong q i) n = refl
-judgement frame (judged.Delivered q i) n = delivered frame q i (readVarint frame)
+abbrev restIn : JudgedAnswer → Rest
+restIn j = (j .error, cond (ltb (j .rule) 8) (j .start) 0, cond (ltb (j .rule) 8) (j .length) 0, cond (ltb (j .rule) 2) (j .quarter) 0, cond (ltb (j .rule) 5) (j .place) 0)
 
-translated : (a : Translation) → TranslatedSo a → translationIn (translationAnswer a) ≡ a
+abbrev Told : Judged → JudgedAnswer → Type 0
+Told a j = (Numbered judged.Refused a → judgedIn j ≡ a) × (restIn j ≡ (getD (0 ∷ 3 ∷ 4 ∷ 5 ∷ 0 ∷ 0 ∷ 2 ∷ 0 ∷ 0 ∷ []) (j .rule) 0, 0, 0, 0, 0))
+
+judgement : (frame : List ℕ) (a : Judged) → Told a (judgedAnswer frame a)
+unfolding judgedIn ruleIn judgedAnswer deliveredAnswer orZero ruleOf quarterOfRule placeOfRule refusedOr judgedError errorNumber number
+judgement frame (judged.Refused why) = (λ n. refused why judged.Refused _ (n why refl), refl)
+judgement frame judged.ShortFrame = (λ n. refl, refl)
+judgement frame (judged.QuarterTooLarge q) = (λ n. refl, refl)
+judgement frame (judged.BeyondLimit q) = (λ n. refl, refl)
+judgement frame (judged.NoStream q) = (λ n. refl, refl)
+judgement frame (judged.ReceiveClosed q i) = (λ n. refl, refl)
+judgement frame (judged.NoSemantics q i) = (λ n. refl, refl)
+judgement frame (judged.TooLong q i) = (λ n. refl, refl)
+judgement frame (judged.Delivered q i) = go (readVarint frame)
+  where
+    go : (v : Varint) → Told (judged.Delivered q i) (deliveredAnswer q i frame v)
+    go Incomplete = (λ n. refl, refl)
+    go (Whole n size) = (λ n. refl, refl)
+
+translated : (a : Translation) → let t = translationAnswer a in (Numbered translation.Refused a → translationIn t ≡ a) × (cond (ltb (t .action) 1) (t .code) 0 ≡ 0)
 unfolding translationIn translationAnswer actionAnswer refusedOr
-translated (translation.Refused why) n = refused why translation.Refused _ n
-translated (translation.Becomes action.None) n = refl
-translated (translation.Becomes (action.Close c)) n = refl
-translated (translation.Becomes (action.StreamError c)) n = refl
-translated (translation.Becomes (action.ConnectionError c)) n = refl
+translated (translation.Refused why) = (λ n. refused why translation.Refused _ (n why refl), refl)
+translated (translation.Becomes action.None) = (λ n. refl, refl)
+translated (translation.Becomes (action.Close c)) = (λ n. refl, refl)
+translated (translation.Becomes (action.StreamError c)) = (λ n. refl, refl)
+translated (translation.Becomes (action.ConnectionError c)) = (λ n. refl, refl)
 
 found-so : (f : Found) → foundIn (foundNumber f) ≡ f
 unfolding foundIn foundNumber
@@ -229,37 +200,9 @@ range a = ap (λ (f : Found). record { found = f; next = a .next; range = a .ran
 
 -- ---- the other numbers
 
-not-below : {A : Type 0} (m n : ℕ) → leb n m ≡ true → m < n → A
-not-below m n e l = absurd (let z : ⊥ = omega (arith, leb-true n m e, l) in z)
-
-close-error : (a : CloseAnswer) → let c = reader.closedAnswer a in c .error ≡ getD (0 ∷ 0 ∷ 1 ∷ []) (c .end) 0
-unfolding reader.closedAnswer endNumber closeError errorNumber number
-close-error (closedAs.Refused why) = refl
-close-error closedAs.Clean = refl
-close-error closedAs.Truncated = refl
-
--- what is said of a judgement's numbers, for all rules at once
-record JudgedRest (j : JudgedAnswer) : Type 0 where
-  pub error : j .error ≡ getD (0 ∷ 3 ∷ 4 ∷ 5 ∷ 0 ∷ 0 ∷ 2 ∷ 0 ∷ 0 ∷ []) (j .rule) 0
-  pub payload : j .rule < 8 → (j .start ≡ 0) × (j .length ≡ 0)
-  pub quarter : j .rule < 2 → j .quarter ≡ 0
-  pub place : j .rule < 5 → j .place ≡ 0
-
-judged-rest : (frame : List ℕ) (a : Judged) → JudgedRest (judgedAnswer frame a)
-unfolding judgedAnswer deliveredAnswer orZero ruleOf quarterOfRule placeOfRule judgedError errorNumber number
-judged-rest frame (judged.Refused why) = record { error = refl; payload = λ l. (refl, refl); quarter = λ l. refl; place = λ l. refl }
-judged-rest frame judged.ShortFrame = record { error = refl; payload = λ l. (refl, refl); quarter = λ l. refl; place = λ l. refl }
-judged-rest frame (judged.QuarterTooLarge q) = record { error = refl; payload = λ l. (refl, refl); quarter = not-below 2 2 refl; place = λ l. refl }
-judged-rest frame (judged.BeyondLimit q) = record { error = refl; payload = λ l. (refl, refl); quarter = not-below 3 2 refl; place = λ l. refl }
-judged-rest frame (judged.NoStream q) = record { error = refl; payload = λ l. (refl, refl); quarter = not-below 4 2 refl; place = λ l. refl }
-judged-rest frame (judged.ReceiveClosed q i) = record { error = refl; payload = λ l. (refl, refl); quarter = not-below 5 2 refl; place = not-below 5 5 refl }
-judged-rest frame (judged.NoSemantics q i) = record { error = refl; payload = λ l. (refl, refl); quarter = not-below 6 2 refl; place = not-below 6 5 refl }
-judged-rest frame (judged.TooLong q i) = record { error = refl; payload = λ l. (refl, refl); quarter = not-below 7 2 refl; place = not-below 7 5 refl }
-judged-rest frame (judged.Delivered q i) = go (readVarint frame)
-  where
-    go : (v : Varint) → JudgedRest (deliveredAnswer q i frame v)
-    go Incomplete = record { error = refl; payload = not-below 8 8 refl; quarter = not-below 8 2 refl; place = not-below 8 5 refl }
-    go (Whole n size) = record { error = refl; payload = not-below 8 8 refl; quarter = not-below 8 2 refl; place = not-below 8 5 refl }
+-- from the test to the fact
+below : (m n x : ℕ) → cond (ltb m n) x 0 ≡ 0 → m < n → x ≡ 0
+below m n x e l = rw (lt-ltb m n l) at e
 
 payload :
     (frame : List ℕ) (q : Quarter) (i n size : ℕ)
@@ -269,38 +212,28 @@ unfolding judgedAnswer deliveredAnswer
 payload frame q i n size e = rw e (refl, refl)
 
 reported : (a : FeedAnswer) → let f = fedAnswer a in (f .report < 3 → f .ctype ≡ 0) × (f .report < 1 → f .length ≡ 0)
-unfolding fedAnswer fedTook fedReport reportNumber typeOf
+unfolding fedAnswer
 reported (fedAs.Refused why) = (λ l. refl, λ l. refl)
-reported (fedAs.Took consumed written Nothing) = (λ l. refl, λ l. refl)
-reported (fedAs.Took consumed written (Capsule (Delivered n))) = (λ l. refl, not-below 1 1 refl)
-reported (fedAs.Took consumed written (Capsule (Dropped n))) = (λ l. refl, not-below 2 1 refl)
-reported (fedAs.Took consumed written (Capsule (Skipped t n))) = (not-below 3 3 refl, not-below 3 1 refl)
-reported (fedAs.Took consumed written (Capsule (Passed t n))) = (not-below 4 3 refl, not-below 4 1 refl)
-reported (fedAs.Took consumed written (Capsule (AddressDelivered t n))) = (not-below 5 3 refl, not-below 5 1 refl)
-reported (fedAs.Took consumed written (Capsule (Malformed t n))) = (not-below 6 3 refl, not-below 6 1 refl)
+reported (fedAs.Took consumed written e) =
+    let t = took consumed written e in
+    (below _ 3 _ (ap (λ (x : Took). x .1) t), below _ 1 _ (ap (λ (x : Took). x .2) t))
 
-abbrev InValueOnly : LookAnswer → Type 0
-InValueOnly l = (l .field < 2 → l .«capsule_type» ≡ 0) × (l .field < 3 → (l .length ≡ 0) × (l .«to_come» ≡ 0) × (l .gathered ≡ 0) × (l .buffer ≡ 0))
-
-in-value-only : (finished : Bool) (limit : ℕ) (p : Place) → InValueOnly (sightAnswer finished limit p)
-unfolding sightAnswer
-in-value-only finished limit place.Between = (λ l. refl, λ l. (refl, refl, refl, refl))
-in-value-only finished limit place.InType = (λ l. refl, λ l. (refl, refl, refl, refl))
-in-value-only finished limit (place.InLength t) = (not-below 2 2 refl, λ l. (refl, refl, refl, refl))
-in-value-only finished limit (place.InValue t n toCome gathered b) = (not-below 3 2 refl, not-below 3 3 refl)
-
-looked : (a : Looked) → InValueOnly (lookedAnswer a)
+looked : (a : Looked) → let l = lookedAnswer a in (l .field < 2 → l .«capsule_type» ≡ 0) × (l .field < 3 → (l .length ≡ 0) × (l .«to_come» ≡ 0) × (l .gathered ≡ 0) × (l .buffer ≡ 0))
 unfolding lookedAnswer
 looked (lookedAs.Refused why) = (λ l. refl, λ l. (refl, refl, refl, refl))
-looked (lookedAs.Seen s) = in-value-only (s .finished) (s .limit) (s .place)
+looked (lookedAs.Seen s) =
+    let t = seen (s .finished) (s .limit) (s .place) in (
+      below _ 2 _ (ap (λ (x : Seen). x .4) t),
+      λ l. (below _ 3 _ (ap (λ (x : Seen). x .5) t) l, below _ 3 _ (ap (λ (x : Seen). x .6) t) l, below _ 3 _ (ap (λ (x : Seen). x .7) t) l, below _ 3 _ (ap (λ (x : Seen). x .8) t) l),
+    )
 
-no-code : (a : Translation) → let t = translationAnswer a in t .action < 1 → t .code ≡ 0
-unfolding translationAnswer actionAnswer
-no-code (translation.Refused why) = λ l. refl
-no-code (translation.Becomes action.None) = λ l. refl
-no-code (translation.Becomes (action.Close c)) = not-below 1 1 refl
-no-code (translation.Becomes (action.StreamError c)) = not-below 2 1 refl
-no-code (translation.Becomes (action.ConnectionError c)) = not-below 3 1 refl
+pub look-kept : LookKept
+unfolding lookWords
+look-kept =
+    record {
+      looks = λ r h. ap (λ (l : Loaded). elim l [ loaded.Nothing ↦ lookedAnswer (lookedAs.Refused unmakeableState) | loaded.Is r ↦ lookedAnswer (lookOf r) ]) (stored-read r h);
+      tells = λ finished limit p. let t = seen finished limit p in (ap (λ (x : Seen). x .0) t, ap (λ (x : Seen). x .1) t, ap (λ (x : Seen). x .2) t);
+    }
 
 pub answers-told : AnswersTold
 unfolding openedAt addressFound
@@ -313,8 +246,8 @@ answers-told = record {
   refused-openings = λ ws why. refl;
   openings = λ ws r. refl;
   feedings = feeding;
-  closings = closing;
-  closing-errors = close-error;
+  closings = λ a. closing a .0;
+  closing-errors = λ a. closing a .1;
   looks = look;
   quarters = quarter;
   stream-ids = stream;
@@ -322,11 +255,11 @@ answers-told = record {
   openings-of-streams = opening;
   closings-of-sides = side;
   standings = standing;
-  judgements = judgement;
-  judged-errors = λ frame a. judged-rest frame a .error;
+  judgements = λ frame a. judgement frame a .0;
+  judged-errors = λ frame a. ap (λ (x : Rest). x .0) (judgement frame a .1);
   payloads = payload;
-  no-payloads = λ frame a. judged-rest frame a .payload;
-  translations = translated;
+  no-payloads = λ frame a l. let e = judgement frame a .1 in (below _ 8 _ (ap (λ (x : Rest). x .1) e) l, below _ 8 _ (ap (λ (x : Rest). x .2) e) l);
+  translations = λ a. translated a .0;
   addresses = address;
   reserved = λ a. refl;
   ranges = range;
@@ -348,8 +281,8 @@ else-zero = record {
   not-opened = λ why. refl;
   not-closed = λ why. (refl, refl);
   not-found = λ why. refl;
-  not-named = λ frame a. (judged-rest frame a .quarter, judged-rest frame a .place);
+  not-named = λ frame a. let e = judgement frame a .1 in (below _ 2 _ (ap (λ (x : Rest). x .3) e), below _ 5 _ (ap (λ (x : Rest). x .4) e));
   not-judged = λ frame why. refl;
-  no-code = no-code;
+  no-code = λ a. below _ 1 _ (translated a .1);
   not-translated = λ why. refl;
 }

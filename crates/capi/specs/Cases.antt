@@ -12,10 +12,10 @@ use Rattle.wire.specs.Units.{quarterOf, streamOf}
 use Rattle.opening.specs.declared.Role.{Role}
 use Rattle.opening.specs.declared.Role.the-variants.{Endpoint, Intermediary}
 use Rattle.opening.specs.declared.Report.the-variants.{Delivered, Dropped, Skipped, Passed, AddressDelivered, Malformed}
-use Rattle.capsule.specs.declared.reader.Phase.{Phase}
-use Rattle.capsule.specs.declared.reader.Phase.the-variants.{InType, InLength, InValue}
+use Rattle.planning.specs.declared.Phase.{Phase}
+use Rattle.planning.specs.declared.Phase.the-variants.{InType, InLength, InValue}
 use Rattle.capsule.specs.declared.reader.Reader.{Reader}
-use Rattle.capsule.specs.declared.reader.Ended.the-variants.{Nothing, Capsule}
+use Rattle.planning.specs.declared.Ended.the-variants.{Nothing, Capsule}
 use Rattle.capsule.specs.declared.reader.FeedAnswer.the-variants as fedAs
 use Rattle.capsule.specs.declared.reader.CloseAnswer.the-variants as closedAs
 use Rattle.capsule.specs.Calls.{lent}
@@ -25,53 +25,58 @@ use Rattle.look.specs.declared.Place.{Place}
 use Rattle.look.specs.declared.Place.the-variants as place
 use Rattle.look.specs.declared.Looked.{Looked}
 use Rattle.look.specs.declared.Looked.the-variants as looked
-use Rattle.streams.specs.declared.record.Side.the-variants.{Receive, Send}
-use Rattle.streams.specs.declared.record.StreamRecord.{StreamRecord}
-use Rattle.streams.specs.declared.table.Standing.the-variants as standing
-use Rattle.streams.specs.Tables.{Table, standingOf}
-use Rattle.datagram.specs.Sending.{putCapsule, putCapsuleHeader, writeFrameHeader}
-use Rattle.datagram.specs.declared.judge.Judged.the-variants as judged
-use Rattle.datagram.specs.Judging.{quarter}
-use Rattle.listing.specs.declared.Ending.the-variants as ending
-use Rattle.listing.specs.declared.Listed.the-variants as listed
+use Rattle.stream_records.specs.declared.record.Side.the-variants.{Receive, Send}
+use Rattle.stream_records.specs.declared.record.StreamRecord.{StreamRecord}
+use Rattle.stream_records.specs.declared.answers.Standing.the-variants as standing
+use Rattle.stream_records.specs.Tables.{Table, standingOf}
+use Rattle.sending.specs.Sending.{putCapsule, putCapsuleHeader, writeFrameHeader}
+use Rattle.judging.specs.declared.judge.Judged.the-variants as judged
+use Rattle.judging.specs.Judging.{quarter}
+use Rattle.one_shot_listing.specs.declared.Ending.the-variants as ending
+use Rattle.one_shot_listing.specs.declared.Listed.the-variants as listed
 use Rattle.http.specs.declared.messages.Message.the-variants.{Request, Response}
-use Rattle.http.specs.declared.translation.Action.the-variants as action
-use Rattle.http.specs.declared.translation.Translation.the-variants as translation
-use Rattle.addresses.specs.declared.Found.the-variants as found
-use Rattle.addresses.specs.Handing.{nextAddress, nextRange}
-use Rattle.crossing.specs.declared.varint.VarintAnswer.{VarintAnswer}
-use Rattle.crossing.specs.declared.varint.WrittenAnswer.{WrittenAnswer}
-use Rattle.crossing.specs.declared.words.Loaded.the-variants as loaded
-use Rattle.crossing.specs.declared.reader.FedAnswer.{FedAnswer}
-use Rattle.crossing.specs.declared.reader.ClosedAnswer.{ClosedAnswer}
-use Rattle.crossing.specs.declared.sight.LookAnswer.{LookAnswer}
-use Rattle.crossing.specs.declared.identifiers.QuarterAnswer.{QuarterAnswer}
-use Rattle.crossing.specs.declared.identifiers.StreamIdAnswer.{StreamIdAnswer}
-use Rattle.crossing.specs.declared.one_shot.ListingAnswer.{ListingAnswer}
-use Rattle.crossing.specs.declared.table.OpenedAnswer.{OpenedAnswer}
-use Rattle.crossing.specs.declared.table.FoundAnswer.{FoundAnswer}
-use Rattle.crossing.specs.declared.table.SideClosedAnswer.{SideClosedAnswer}
-use Rattle.crossing.specs.declared.frames.JudgedAnswer.{JudgedAnswer}
-use Rattle.crossing.specs.declared.messages.TranslationAnswer.{TranslationAnswer}
-use Rattle.crossing.specs.declared.address_capsules.AddressFound.{AddressFound}
-use Rattle.crossing.specs.declared.address_capsules.RouteFound.{RouteFound}
-use Rattle.crossing.specs.Numbers.{flagOf, roleOf, sideOf, statusOf, bitOf}
-use Rattle.crossing.specs.Varint.{varintAnswer, writtenAnswer}
+use Rattle.http_errors.specs.declared.translation.Action.the-variants as action
+use Rattle.http_errors.specs.declared.translation.Translation.the-variants as translation
+use Rattle.address_cursor.specs.declared.Found.the-variants as found
+use Rattle.address_cursor.specs.Handing.{nextAddress, nextRange}
+use Rattle.answers.specs.declared.varint.VarintAnswer.{VarintAnswer}
+use Rattle.answers.specs.declared.varint.WrittenAnswer.{WrittenAnswer}
+use Rattle.reader_words.specs.declared.words.Loaded.the-variants as loaded
+use Rattle.reader_answers.specs.declared.reader.FedAnswer.{FedAnswer}
+use Rattle.reader_answers.specs.declared.reader.ClosedAnswer.{ClosedAnswer}
+use Rattle.reader_answers.specs.declared.sight.LookAnswer.{LookAnswer}
+use Rattle.answers.specs.declared.identifiers.QuarterAnswer.{QuarterAnswer}
+use Rattle.answers.specs.declared.identifiers.StreamIdAnswer.{StreamIdAnswer}
+use Rattle.answers.specs.declared.one_shot.ListingAnswer.{ListingAnswer}
+use Rattle.stream_answers.specs.declared.table.OpenedAnswer.{OpenedAnswer}
+use Rattle.stream_answers.specs.declared.table.FoundAnswer.{FoundAnswer}
+use Rattle.stream_answers.specs.declared.table.SideClosedAnswer.{SideClosedAnswer}
+use Rattle.stream_answers.specs.declared.frames.JudgedAnswer.{JudgedAnswer}
+use Rattle.answers.specs.declared.messages.TranslationAnswer.{TranslationAnswer}
+use Rattle.answers.specs.declared.address_capsules.AddressFound.{AddressFound}
+use Rattle.answers.specs.declared.address_capsules.RouteFound.{RouteFound}
+use Rattle.reader_words.specs.Numbers.{flagOf, roleOf, bitOf}
+use Rattle.answers.specs.Numbers.{sideOf, statusOf}
+use Rattle.answers.specs.Varint.{varintAnswer, writtenAnswer}
 use Rattle.capi.specs.Varint.{Answered, wrote, wroteBy}
-use Rattle.crossing.specs.Words.{roleWord, wordsOf, readerIn}
-use Rattle.capi.specs.Reader as reader
-use Rattle.crossing.specs.Reader.{fedAnswer, closedAnswer}
-use Rattle.capi.specs.Reader.{openWords, feedWords, closeWords}
-use Rattle.crossing.specs.Sight.{lookedAnswer}
+use Rattle.reader_words.specs.Words.{roleWord, wordsOf, readerIn}
+use Rattle.reader_calls.specs.Reader as reader
+use Rattle.reader_answers.specs.Reader.{fedAnswer, closedAnswer}
+use Rattle.reader_calls.specs.Reader.{openWords, feedWords, closeWords}
+use Rattle.reader_answers.specs.Sight.{lookedAnswer}
 use Rattle.capi.specs.Sight.{lookWords}
-use Rattle.crossing.specs.Identifiers.{quarterAnswer, streamAnswer}
-use Rattle.crossing.specs.OneShot.{listingAnswer}
+use Rattle.answers.specs.Identifiers.{quarterAnswer, streamAnswer}
+use Rattle.answers.specs.OneShot.{listingAnswer}
 use Rattle.capi.specs.Table as table
-use Rattle.crossing.specs.Table.{foundAnswer}
+use Rattle.stream_answers.specs.Table.{foundAnswer}
 use Rattle.capi.specs.Table.{streamId, openTable, closeTable}
-use Rattle.crossing.specs.Frames.{judgedAnswer}
-use Rattle.crossing.specs.AddressCapsules.{foundNumber, cursor, addressFound, routeFound}
-use Rattle.crossing.specs.Messages.{messageOf, translationAnswer}
+use Rattle.stream_answers.specs.Frames.{judgedAnswer}
+use Rattle.answers.specs.AddressCapsules.{foundNumber, cursor, addressFound, routeFound}
+use Rattle.answers.specs.Messages.{messageOf, translationAnswer}
+
+-- a table of cases: what is got, and what is expected
+abbrev Agree : {A : Type 0} → List (A × A) → Type 0
+Agree cases = map (λ c. c .0) cases ≡ map (λ c. c .1) cases
 
 -- ---- answers, their fields in the header's order
 
@@ -175,13 +180,24 @@ header peer path n place = wroteBy (writeFrameHeader streams (table.streamId 256
 pub record SendingCases : Type 0 where
   pub standings : map foundAnswer (standing.Refused (refusal 10) ∷ standing.At 0 ∷ standing.At 63 ∷ []) ≡ standingSo 10 0 ∷ standingSo 0 0 ∷ standingSo 0 63 ∷ []
   -- at places 1 and 2; not there, no request stream; a bad table
-  pub finds : map (stands streams) (256 ∷ 20 ∷ 0 ∷ 257 ∷ []) ≡ standingSo 0 1 ∷ standingSo 0 2 ∷ standingSo 10 0 ∷ standingSo 7 0 ∷ []
-  pub finds-bad : stands (rec 5 1 ∷ []) 20 ≡ standingSo 15 0
-  -- written; refused: settings, side, length, path size, output
+  pub finds :
+      Agree
+      ((stands streams 256, standingSo 0 1)
+      ∷ (stands streams 20, standingSo 0 2)
+      ∷ (stands streams 0, standingSo 10 0)
+      ∷ (stands streams 257, standingSo 7 0)
+      ∷ (stands (rec 5 1 ∷ []) 20, standingSo 15 0)
+      ∷ [])
+  -- written; refused: settings, length, path size, output, side
   pub frame-headers :
-      header 1 1002 1000 1 ∷ header 0 1002 1000 1 ∷ header 1 70000 65536 1 ∷ header 1 1001 1000 1 ∷ header 1 1002 1000 3 ∷ []
-      ≡ wrote (wroteSo 0 2) (9 ∷ 0x40 ∷ 0x40 ∷ 9 ∷ []) ∷ wrote (wroteSo 11 0) (nines 4) ∷ wrote (wroteSo 6 0) (nines 4) ∷ wrote (wroteSo 14 0) (nines 4) ∷ wrote (wroteSo 5 0) (nines 4) ∷ []
-  pub frame-header-closed : wroteBy (writeFrameHeader streams (table.streamId 20) 1 1 1200 4 (nines 4) 0) ≡ wrote (wroteSo 12 0) (nines 4)
+      Agree
+      ((header 1 1002 1000 1, wrote (wroteSo 0 2) (9 ∷ 0x40 ∷ 0x40 ∷ 9 ∷ []))
+      ∷ (header 0 1002 1000 1, wrote (wroteSo 11 0) (nines 4))
+      ∷ (header 1 70000 65536 1, wrote (wroteSo 6 0) (nines 4))
+      ∷ (header 1 1001 1000 1, wrote (wroteSo 14 0) (nines 4))
+      ∷ (header 1 1002 1000 3, wrote (wroteSo 5 0) (nines 4))
+      ∷ (wroteBy (writeFrameHeader streams (table.streamId 20) 1 1 1200 4 (nines 4) 0), wrote (wroteSo 12 0) (nines 4))
+      ∷ [])
   pub datagrams :
       map (λ n. wroteBy (putCapsule (7 ∷ 8 ∷ []) (nines 6) n)) (1 ∷ 3 ∷ all ∷ []) ≡ wrote (wroteSo 0 4) (9 ∷ 0 ∷ 2 ∷ 7 ∷ 8 ∷ 9 ∷ []) ∷ wrote (wroteSo 5 0) (nines 6) ∷ wrote (wroteSo 5 0) (nines 6) ∷ []
   pub datagram-headers :
@@ -249,28 +265,32 @@ pub record Cases : Type 0 where
       ∷ words 0 0 0 1 5 256 0 0
       ∷ [])
       ≡ replicate 10 loaded.Nothing
-  pub opens : openWords (nines 8) 1 65535 2 0 ≡ reader.opened 0 (words 1 65535 1 0 0 0 0 0)
-  pub opens-addresses : openWords (nines 8) 0 65535 0 2 ≡ reader.opened 0 (words 0 65535 2 0 0 0 0 0)
-  pub opens-not : openWords (nines 8) 0 65536 0 1 ≡ reader.opened 3 (nines 8)
+  pub opens :
+      Agree
+      ((openWords (nines 8) 1 65535 2 0, reader.opened 0 (words 1 65535 1 0 0 0 0 0))
+      ∷ (openWords (nines 8) 0 65535 0 2, reader.opened 0 (words 0 65535 2 0 0 0 0 0))
+      ∷ (openWords (nines 8) 0 65536 0 1, reader.opened 3 (nines 8))
+      ∷ [])
   -- a value begun, and words that are no reader's
+  -- an endpoint that takes address capsules: a second buffer of 1,023 bytes, a good value, a REQUEST with no entry, and a feeding after it
+  -- type 2 at an endpoint that does not take it
   pub feeds :
-      feedWords (words 0 6 0 0 0 0 0 0) (0 ∷ 5 ∷ 0x61 ∷ 0x62 ∷ []) (lent (nines 7) [] [])
-      ≡ reader.fed (fedSo 0 4 0 0 0 0 0) (words 0 6 0 2 0 5 3 0) (lent (0x61 ∷ 0x62 ∷ nines 5) [] [])
-  pub feeds-not : feedWords (nines 8) (0 ∷ []) (lent [] [] []) ≡ reader.fed (fedSo 1 0 0 0 0 0 0) (nines 8) (lent [] [] [])
-  -- an endpoint that takes address capsules: a second buffer of 1,023 bytes, a good value, a REQUEST with no entry, and a feeding behind it
-  pub feeds-short : feedWords (words 0 6 2 0 0 0 0 0) [] (lent (nines 6) (nines 1023) []) ≡ reader.fed (fedSo 18 0 0 0 0 0 0) (words 0 6 2 0 0 0 0 0) (lent (nines 6) (nines 1023) [])
-  pub feeds-address :
-      feedWords (words 0 6 2 0 0 0 0 0) (1 ∷ 7 ∷ (anAddress ++ (9 ∷ []))) (lent (nines 6) (nines 1024) [])
-      ≡ reader.fed (fedSo 0 9 0 5 1 7 0) (words 0 6 2 0 0 0 0 0) (lent (nines 6) (anAddress ++ nines 1017) [])
-  pub feeds-malformed :
-      feedWords (words 0 6 2 0 0 0 0 0) (2 ∷ 0 ∷ 0 ∷ 0 ∷ []) (lent (nines 6) (nines 1024) []) ≡ reader.fed (fedSo 0 2 0 6 2 0 7) (words 0 6 2 0 0 0 0 1) (lent (nines 6) (nines 1024) [])
-  pub feeds-finished : feedWords (words 0 6 2 0 0 0 0 1) [] (lent (nines 6) (nines 1024) []) ≡ reader.fed (fedSo 2 0 0 0 0 0 0) (words 0 6 2 0 0 0 0 1) (lent (nines 6) (nines 1024) [])
-  -- types 2 and 1 at an endpoint that does not take them
-  pub feeds-skipped : feedWords (words 0 6 0 0 0 0 0 0) (2 ∷ 0 ∷ []) (lent (nines 6) [] []) ≡ reader.fed (fedSo 0 2 0 3 2 0 0) (words 0 6 0 0 0 0 0 0) (lent (nines 6) [] [])
-  pub closes : closeWords (words 0 6 0 2 0 5 3 0) ≡ reader.closed (closedSo 0 2 1) (words 0 6 0 2 0 5 3 1)
-  pub closes-clean : closeWords (words 0 6 0 0 0 0 0 0) ≡ reader.closed (closedSo 0 1 0) (words 0 6 0 0 0 0 0 1)
-  pub closes-again : closeWords (words 0 6 0 0 0 0 0 1) ≡ reader.closed (closedSo 2 0 0) (words 0 6 0 0 0 0 0 1)
-  pub closes-not : closeWords (nines 8) ≡ reader.closed (closedSo 1 0 0) (nines 8)
+      Agree
+      ((feedWords (words 0 6 0 0 0 0 0 0) (0 ∷ 5 ∷ 0x61 ∷ 0x62 ∷ []) (lent (nines 7) [] []), reader.fed (fedSo 0 4 0 0 0 0 0) (words 0 6 0 2 0 5 3 0) (lent (0x61 ∷ 0x62 ∷ nines 5) [] []))
+      ∷ (feedWords (nines 8) (0 ∷ []) (lent [] [] []), reader.fed (fedSo 1 0 0 0 0 0 0) (nines 8) (lent [] [] []))
+      ∷ (feedWords (words 0 6 2 0 0 0 0 0) [] (lent (nines 6) (nines 1023) []), reader.fed (fedSo 18 0 0 0 0 0 0) (words 0 6 2 0 0 0 0 0) (lent (nines 6) (nines 1023) []))
+      ∷ (feedWords (words 0 6 2 0 0 0 0 0) (1 ∷ 7 ∷ (anAddress ++ (9 ∷ []))) (lent (nines 6) (nines 1024) []), reader.fed (fedSo 0 9 0 5 1 7 0) (words 0 6 2 0 0 0 0 0) (lent (nines 6) (anAddress ++ nines 1017) []))
+      ∷ (feedWords (words 0 6 2 0 0 0 0 0) (2 ∷ 0 ∷ 0 ∷ 0 ∷ []) (lent (nines 6) (nines 1024) []), reader.fed (fedSo 0 2 0 6 2 0 7) (words 0 6 2 0 0 0 0 1) (lent (nines 6) (nines 1024) []))
+      ∷ (feedWords (words 0 6 2 0 0 0 0 1) [] (lent (nines 6) (nines 1024) []), reader.fed (fedSo 2 0 0 0 0 0 0) (words 0 6 2 0 0 0 0 1) (lent (nines 6) (nines 1024) []))
+      ∷ (feedWords (words 0 6 0 0 0 0 0 0) (2 ∷ 0 ∷ []) (lent (nines 6) [] []), reader.fed (fedSo 0 2 0 3 2 0 0) (words 0 6 0 0 0 0 0 0) (lent (nines 6) [] []))
+      ∷ [])
+  pub closes :
+      Agree
+      ((closeWords (words 0 6 0 2 0 5 3 0), reader.closed (closedSo 0 2 1) (words 0 6 0 2 0 5 3 1))
+      ∷ (closeWords (words 0 6 0 0 0 0 0 0), reader.closed (closedSo 0 1 0) (words 0 6 0 0 0 0 0 1))
+      ∷ (closeWords (words 0 6 0 0 0 0 0 1), reader.closed (closedSo 2 0 0) (words 0 6 0 0 0 0 0 1))
+      ∷ (closeWords (nines 8), reader.closed (closedSo 1 0 0) (nines 8))
+      ∷ [])
   -- a look: refused; each field, and each buffer
   pub looks :
       map lookedAnswer
@@ -316,14 +336,21 @@ pub record Cases : Type 0 where
   pub stream-ids :
       map (λ q. streamAnswer (streamOf (quarter q))) (0 ∷ 1 ∷ (2 ^ 60 - 1) ∷ (2 ^ 60) ∷ all ∷ [])
       ≡ streamIdSo 0 0 ∷ streamIdSo 0 4 ∷ streamIdSo 0 (2 ^ 62 - 4) ∷ streamIdSo 1 0 ∷ streamIdSo 1 0 ∷ []
-  -- tables: semantics asked for by 2, and not; the send side closed by 2, which frees the place, and by 1, which does not
-  pub opens-stream : openTable (rec 5 3 ∷ rec 0 0 ∷ []) 4 2 ≡ table.opened (openedSo 0 1) (rec 5 3 ∷ rec 1 15 ∷ [])
-  pub opens-plain : openTable (rec 5 3 ∷ rec 0 0 ∷ []) 4 0 ≡ table.opened (openedSo 0 1) (rec 5 3 ∷ rec 1 7 ∷ [])
-  pub opens-stream-not : openTable (rec 5 3 ∷ rec 0 0 ∷ []) 20 0 ≡ table.opened (openedSo 9 0) (rec 5 3 ∷ rec 0 0 ∷ [])
-  pub closes-side : closeTable (rec 1 15 ∷ rec 5 13 ∷ []) 20 2 ≡ table.closed (sideClosedSo 0 1 1) (rec 1 15 ∷ rec 0 0 ∷ [])
-  pub closes-one-side : closeTable (rec 1 15 ∷ rec 5 15 ∷ []) 20 1 ≡ table.closed (sideClosedSo 0 1 0) (rec 1 15 ∷ rec 5 11 ∷ [])
-  pub closes-receive : closeTable (rec 1 15 ∷ rec 5 15 ∷ []) 20 0 ≡ table.closed (sideClosedSo 0 1 0) (rec 1 15 ∷ rec 5 13 ∷ [])
-  pub closes-side-not : closeTable (rec 1 15 ∷ []) 20 0 ≡ table.closed (sideClosedSo 10 0 0) (rec 1 15 ∷ [])
+  -- tables: semantics asked for by 2, and not; a stream that is there
+  pub opens-stream :
+      Agree
+      ((openTable (rec 5 3 ∷ rec 0 0 ∷ []) 4 2, table.opened (openedSo 0 1) (rec 5 3 ∷ rec 1 15 ∷ []))
+      ∷ (openTable (rec 5 3 ∷ rec 0 0 ∷ []) 4 0, table.opened (openedSo 0 1) (rec 5 3 ∷ rec 1 7 ∷ []))
+      ∷ (openTable (rec 5 3 ∷ rec 0 0 ∷ []) 20 0, table.opened (openedSo 9 0) (rec 5 3 ∷ rec 0 0 ∷ []))
+      ∷ [])
+  -- the send side closed by 2, which frees the place, and by 1, which does not; the receive side; a stream that is not there
+  pub closes-side :
+      Agree
+      ((closeTable (rec 1 15 ∷ rec 5 13 ∷ []) 20 2, table.closed (sideClosedSo 0 1 1) (rec 1 15 ∷ rec 0 0 ∷ []))
+      ∷ (closeTable (rec 1 15 ∷ rec 5 15 ∷ []) 20 1, table.closed (sideClosedSo 0 1 0) (rec 1 15 ∷ rec 5 11 ∷ []))
+      ∷ (closeTable (rec 1 15 ∷ rec 5 15 ∷ []) 20 0, table.closed (sideClosedSo 0 1 0) (rec 1 15 ∷ rec 5 13 ∷ []))
+      ∷ (closeTable (rec 1 15 ∷ []) 20 0, table.closed (sideClosedSo 10 0 0) (rec 1 15 ∷ []))
+      ∷ [])
   -- a refusal, and rules 1 to 8, of a frame whose quarter has two bytes
   pub judgements :
       map (judgedAnswer (0x40 ∷ 1 ∷ 7 ∷ 8 ∷ 9 ∷ []))

@@ -1,5 +1,4 @@
 -- What holds of the calls. Each claim is a type here, and is proved in proofs/ under its name in lower case with dashes.
-use Prim.{Unit}
 use Prim.Native.Nat.{ℕ, _+_, _≤_, _<_}
 use mathlib.Core.Path.{_≡_}
 use mathlib.Core.Logic.{_↔_}
@@ -11,9 +10,7 @@ use lib.Dec.{eqb}
 use Rattle.refusals.specs.declared.Refusal.{Refusal}
 use Rattle.refusals.specs.Numbers.{refusal}
 use Rattle.wire.specs.declared.units.StreamId.{StreamId}
-use Rattle.wire.specs.declared.units.QuarterOf.{QuarterOf}
 use Rattle.wire.specs.declared.units.QuarterOf.the-variants as quarterAs
-use Rattle.wire.specs.declared.varint.Written.{Written}
 use Rattle.wire.specs.declared.varint.Written.the-variants as writtenAs
 use Rattle.wire.specs.Bytes.{Bytes}
 use Rattle.wire.specs.Units.{quarterOf}
@@ -21,60 +18,52 @@ use Rattle.wire.specs.Writing.{Writing, writeVarint}
 use Rattle.opening.specs.declared.Role.{Role}
 use Rattle.opening.specs.declared.Role.the-variants.{Endpoint}
 use Rattle.capsule.specs.declared.reader.Reader.{Reader}
-use Rattle.capsule.specs.declared.reader.Opened.{Opened}
 use Rattle.capsule.specs.declared.reader.Opened.the-variants as openedAs
 use Rattle.capsule.specs.declared.reader.FeedAnswer.{FeedAnswer}
 use Rattle.capsule.specs.declared.reader.FeedAnswer.the-variants as fedAs
-use Rattle.capsule.specs.declared.reader.CloseAnswer.{CloseAnswer}
 use Rattle.capsule.specs.declared.reader.CloseAnswer.the-variants as closedAs
 use Rattle.capsule.specs.Calls.{Lent, Call, feed, close, run}
 use Rattle.capsule.specs.Book.{newBook, bookCall}
 use Rattle.capsule.specs.State.{ofBook}
 use Rattle.capsule.specs.Reader.{opening, fresh, isMakeable, openOf, feedOf, closeOf, readerCall}
 use Rattle.capsule_laws.specs.Claims.{AllBytes, HandedOn}
-use Rattle.streams.specs.declared.record.Side.{Side}
-use Rattle.streams.specs.declared.record.Side.the-variants.{Receive}
-use Rattle.streams.specs.declared.table.Opening.{Opening}
-use Rattle.streams.specs.declared.table.Opening.the-variants as openingAs
-use Rattle.streams.specs.declared.table.Closing.{Closing}
-use Rattle.streams.specs.declared.table.Closing.the-variants as closingAs
-use Rattle.streams.specs.declared.table.Standing.{Standing}
-use Rattle.streams.specs.declared.table.Standing.the-variants as standingAs
-use Rattle.streams.specs.Tables.{Table, isBad, openingOf, closingOf, standingOf, tableOpened, tableClosed}
-use Rattle.datagram.specs.declared.judge.Judged.{Judged}
-use Rattle.datagram.specs.declared.judge.Judged.the-variants as judged
-use Rattle.datagram.specs.Judging.{judgedOf, payloadOf}
-use Rattle.datagram.specs.Sending.{putCapsule, putCapsuleHeader, writeCapsule, writeFrame, writeFrameHeader}
-use Rattle.addresses.specs.Handing.{nextAddress, nextRange}
+use Rattle.stream_records.specs.declared.record.Side.{Side}
+use Rattle.stream_records.specs.declared.record.Side.the-variants.{Receive}
+use Rattle.stream_records.specs.declared.answers.StreamOpened.the-variants as openingAs
+use Rattle.stream_records.specs.declared.answers.SideClosed.the-variants as closingAs
+use Rattle.stream_records.specs.declared.answers.Standing.the-variants as standingAs
+use Rattle.stream_records.specs.Tables.{Table, isBad, openingOf, closingOf, standingOf, tableOpened, tableClosed}
+use Rattle.judging.specs.declared.judge.Judged.the-variants as judged
+use Rattle.judging.specs.Judging.{judgedOf, payloadOf}
+use Rattle.sending.specs.Sending.{putCapsule, putCapsuleHeader, writeCapsule, writeFrame, writeFrameHeader}
+use Rattle.address_cursor.specs.Handing.{nextAddress, nextRange}
 use Rattle.address_writer.specs.Writer.{writeAddresses, writeRoutes}
 use Rattle.look.specs.declared.Place.{Place}
-use Rattle.look.specs.declared.Looked.{Looked}
 use Rattle.look.specs.declared.Looked.the-variants as lookedAs
 use Rattle.look.specs.Looking.{lookOf}
-use Rattle.listing.specs.declared.Listed.{Listed}
-use Rattle.listing.specs.declared.Listed.the-variants as listed
-use Rattle.listing.specs.Listing.{listingOf}
-use Rattle.http.specs.declared.translation.Translation.{Translation}
-use Rattle.http.specs.declared.translation.Translation.the-variants as translation
-use Rattle.http.specs.Translation.{translated}
-use Rattle.crossing.specs.declared.words.Loaded.the-variants.{Nothing, Is}
-use Rattle.crossing.specs.declared.reader.FedAnswer.{FedAnswer}
-use Rattle.crossing.specs.declared.reader.ClosedAnswer.{ClosedAnswer}
-use Rattle.crossing.specs.Numbers.{roleOf, flagOf, sideOf, statusOf, bitOf}
-use Rattle.crossing.specs.Varint.{writtenAnswer}
+use Rattle.one_shot_listing.specs.declared.Listed.the-variants as listed
+use Rattle.one_shot_listing.specs.Listing.{listingOf}
+use Rattle.http_errors.specs.declared.translation.Translation.the-variants as translation
+use Rattle.http_errors.specs.Translation.{translated}
+use Rattle.reader_words.specs.declared.words.Loaded.the-variants.{Nothing}
+use Rattle.reader_answers.specs.declared.reader.FedAnswer.{FedAnswer}
+use Rattle.reader_answers.specs.declared.reader.ClosedAnswer.{ClosedAnswer}
+use Rattle.reader_words.specs.Numbers.{roleOf, flagOf, bitOf}
+use Rattle.answers.specs.Numbers.{sideOf, statusOf}
+use Rattle.answers.specs.Varint.{writtenAnswer}
 use Rattle.capi.specs.Varint.{wroteBy}
-use Rattle.crossing.specs.Claims.{HaveIsByte}
-use Rattle.crossing.specs.Words.{wordsOf, readerIn}
-use Rattle.crossing.specs.Reader.{fedRefused, fedAnswer, closedAnswer}
-use Rattle.capi.specs.Reader.{openWords, fed, feedWords, closed, closeWords}
-use Rattle.crossing.specs.Table as table
-use Rattle.crossing.specs.Table.{openedAnswer}
+use Rattle.reader_words.specs.Claims.{HaveIsByte}
+use Rattle.reader_words.specs.Words.{wordsOf, readerIn}
+use Rattle.reader_answers.specs.Reader.{fedRefused, fedAnswer, closedAnswer}
+use Rattle.reader_calls.specs.Reader.{openWords, fed, feedWords, closed, closeWords}
+use Rattle.stream_answers.specs.Table as table
+use Rattle.stream_answers.specs.Table.{openedAnswer}
 use Rattle.capi.specs.Table.{openTable, closeTable}
-use Rattle.crossing.specs.Frames.{judgedAnswer}
-use Rattle.crossing.specs.Sight.{sightAnswer, lookedAnswer}
+use Rattle.stream_answers.specs.Frames.{judgedAnswer}
+use Rattle.reader_answers.specs.Sight.{sightAnswer, lookedAnswer}
 use Rattle.capi.specs.Sight.{lookWords}
-use Rattle.crossing.specs.Identifiers.{quarterAnswer}
-use Rattle.crossing.specs.AddressCapsules.{cursor, addressFound, routeFound}
+use Rattle.answers.specs.Identifiers.{quarterAnswer}
+use Rattle.answers.specs.AddressCapsules.{cursor, addressFound, routeFound}
 
 -- ---- calls on a reader in words (proofs/Keeping.antt)
 
@@ -118,7 +107,7 @@ pub record CloseKept (r : Reader) : Type 0 where
 abbrev pub ReaderKept : Type 0
 ReaderKept = (r : Reader) → isMakeable r ≡ true → ((p : List ℕ) (b : Lent) → Bytes p → FeedKept r p b) × CloseKept r
 
--- a look at the words is the look at the reader that they are; wherever its stream stands the mark and the limit are told
+-- a look at the words is the look at the reader that they are; wherever its stream stands the mark and the limit are told (proofs/Told.antt)
 pub record LookKept : Type 0 where
   pub looks : (r : Reader) → HaveIsByte (r .phase) → lookWords (wordsOf r) ≡ lookedAnswer (lookOf r)
   pub tells :
@@ -161,7 +150,7 @@ Demand3InWords =
     → HandedOn none (newBook op) (fresh op) cs
     → runWords (openWords ws role limit draft addresses .words) cs ≡ (wordsOf (ofBook (run bookCall (newBook op) cs .0)), runNumbers (fresh op) cs)
 
--- a malformed capsule (report 6) is error 7, and no other answer of a feeding is an error
+-- a malformed capsule (report 6) is error 7, and no other answer of a feeding is an error (proofs/Told.antt)
 abbrev pub MalformedError : Type 0
 MalformedError = (a : FeedAnswer) → fedAnswer a .error ≡ cond (eqb (fedAnswer a .report) 6) 7 0
 
@@ -240,79 +229,30 @@ RefusedWriteLeaves =
 abbrev pub NotZero : Refusal → Type 0
 NotZero why = why .0 ≡ 0 → ⊥
 
-abbrev pub OpenedSo : Opened → Type 0
-OpenedSo (openedAs.Refused why) = NotZero why
-OpenedSo (openedAs.Ready r) = Unit {0}
+-- of an answer that may be a refusal
+abbrev pub Numbered : {A : Type 0} → (Refusal → A) → A → Type 0
+Numbered refused a = (why : Refusal) → a ≡ refused why → NotZero why
 
-abbrev pub FedSo : FeedAnswer → Type 0
-FedSo (fedAs.Refused why) = NotZero why
-FedSo (fedAs.Took consumed written ended) = Unit {0}
-
-abbrev pub ClosedSo : CloseAnswer → Type 0
-ClosedSo (closedAs.Refused why) = NotZero why
-ClosedSo closedAs.Clean = Unit {0}
-ClosedSo closedAs.Truncated = Unit {0}
-
-abbrev pub LookedSo : Looked → Type 0
-LookedSo (lookedAs.Refused why) = NotZero why
-LookedSo (lookedAs.Seen sight) = Unit {0}
-
-abbrev pub ListedSo : Listed → Type 0
-ListedSo (listed.Refused why) = NotZero why
-ListedSo (listed.Counted capsules headers ending) = Unit {0}
-
-abbrev pub WrittenSo : Written → Type 0
-WrittenSo (writtenAs.Refused why) = NotZero why
-WrittenSo (writtenAs.Wrote count) = Unit {0}
-
-abbrev pub OpeningSo : Opening → Type 0
-OpeningSo (openingAs.Refused why) = NotZero why
-OpeningSo (openingAs.Opened i) = Unit {0}
-
-abbrev pub StandingSo : Standing → Type 0
-StandingSo (standingAs.Refused why) = NotZero why
-StandingSo (standingAs.At i) = Unit {0}
-
-abbrev pub ClosingSo : Closing → Type 0
-ClosingSo (closingAs.Refused why) = NotZero why
-ClosingSo (closingAs.Closed i freed) = Unit {0}
-
-abbrev pub QuarterSo : QuarterOf → Type 0
-QuarterSo quarterAs.NotRequestStream = quarterAnswer quarterAs.NotRequestStream .refusal ≡ 0 → ⊥
-QuarterSo (quarterAs.Is q) = Unit {0}
-
-abbrev pub JudgedSo : Judged → Type 0
-JudgedSo (judged.Refused why) = NotZero why
-JudgedSo judged.ShortFrame = Unit {0}
-JudgedSo (judged.QuarterTooLarge q) = Unit {0}
-JudgedSo (judged.BeyondLimit q) = Unit {0}
-JudgedSo (judged.NoStream q) = Unit {0}
-JudgedSo (judged.ReceiveClosed q place) = Unit {0}
-JudgedSo (judged.NoSemantics q place) = Unit {0}
-JudgedSo (judged.TooLong q place) = Unit {0}
-JudgedSo (judged.Delivered q place) = Unit {0}
-
-abbrev pub TranslatedSo : Translation → Type 0
-TranslatedSo (translation.Refused why) = NotZero why
-TranslatedSo (translation.Becomes action) = Unit {0}
+abbrev pub WritingNumbered : Writing → Type 0
+WritingNumbered w = Numbered writtenAs.Refused (w .answer)
 
 pub record NumberedRefusals : Type 0 where
-  pub opens : (role : Role) (limit : ℕ) (draft addresses : Bool) → OpenedSo (openOf role limit draft addresses)
-  pub feeds : (r : Reader) (p : List ℕ) (b : Lent) → FedSo (feedOf r p b .answer)
-  pub closes : (r : Reader) → ClosedSo (closeOf r .answer)
-  pub looks : (r : Reader) → LookedSo (lookOf r)
-  pub lists : (s : List ℕ) → ListedSo (listingOf s)
-  pub writes-varint : (n : ℕ) (out : List ℕ) (place : ℕ) → WrittenSo (writeVarint n out place .answer)
-  pub opens-stream : (t : Table) (id : StreamId) → OpeningSo (openingOf t id)
-  pub closes-side : (t : Table) (id : StreamId) (side : Side) → ClosingSo (closingOf t id side)
-  pub quarters : (id : StreamId) → QuarterSo (quarterOf id)
-  pub judges : (t : Table) (streams limit : ℕ) (frame : List ℕ) → JudgedSo (judgedOf t streams limit frame)
-  pub writes-capsule : (t : Table) (id : StreamId) (payload out : List ℕ) (place : ℕ) → WrittenSo (writeCapsule t id payload out place .answer)
-  pub writes-frame : (t : Table) (id : StreamId) (ours peers path : ℕ) (payload out : List ℕ) (place : ℕ) → WrittenSo (writeFrame t id ours peers path payload out place .answer)
-  pub finds-stream : (t : Table) (id : StreamId) → StandingSo (standingOf t id)
-  pub writes-frame-header : (t : Table) (id : StreamId) (ours peers path n : ℕ) (out : List ℕ) (place : ℕ) → WrittenSo (writeFrameHeader t id ours peers path n out place .answer)
-  pub writes-datagram : (payload out : List ℕ) (place : ℕ) → WrittenSo (putCapsule payload out place .answer)
-  pub writes-datagram-header : (n : ℕ) (out : List ℕ) (place : ℕ) → WrittenSo (putCapsuleHeader n out place .answer)
-  pub writes-addresses : (t : ℕ) (row out : List ℕ) (place : ℕ) → WrittenSo (writeAddresses t row out place .answer)
-  pub writes-routes : (row out : List ℕ) (place : ℕ) → WrittenSo (writeRoutes row out place .answer)
-  pub translates : (error version : ℕ) → TranslatedSo (translated error version)
+  pub opens : (role : Role) (limit : ℕ) (draft addresses : Bool) → Numbered openedAs.Refused (openOf role limit draft addresses)
+  pub feeds : (r : Reader) (p : List ℕ) (b : Lent) → Numbered fedAs.Refused (feedOf r p b .answer)
+  pub closes : (r : Reader) → Numbered closedAs.Refused (closeOf r .answer)
+  pub looks : (r : Reader) → Numbered lookedAs.Refused (lookOf r)
+  pub lists : (s : List ℕ) → Numbered listed.Refused (listingOf s)
+  pub writes-varint : (n : ℕ) (out : List ℕ) (place : ℕ) → WritingNumbered (writeVarint n out place)
+  pub opens-stream : (t : Table) (id : StreamId) → Numbered openingAs.Refused (openingOf t id)
+  pub closes-side : (t : Table) (id : StreamId) (side : Side) → Numbered closingAs.Refused (closingOf t id side)
+  pub quarters : (id : StreamId) → quarterOf id ≡ quarterAs.NotRequestStream → quarterAnswer (quarterOf id) .refusal ≡ 0 → ⊥
+  pub judges : (t : Table) (streams limit : ℕ) (frame : List ℕ) → Numbered judged.Refused (judgedOf t streams limit frame)
+  pub writes-capsule : (t : Table) (id : StreamId) (payload out : List ℕ) (place : ℕ) → WritingNumbered (writeCapsule t id payload out place)
+  pub writes-frame : (t : Table) (id : StreamId) (ours peers path : ℕ) (payload out : List ℕ) (place : ℕ) → WritingNumbered (writeFrame t id ours peers path payload out place)
+  pub finds-stream : (t : Table) (id : StreamId) → Numbered standingAs.Refused (standingOf t id)
+  pub writes-frame-header : (t : Table) (id : StreamId) (ours peers path n : ℕ) (out : List ℕ) (place : ℕ) → WritingNumbered (writeFrameHeader t id ours peers path n out place)
+  pub writes-datagram : (payload out : List ℕ) (place : ℕ) → WritingNumbered (putCapsule payload out place)
+  pub writes-datagram-header : (n : ℕ) (out : List ℕ) (place : ℕ) → WritingNumbered (putCapsuleHeader n out place)
+  pub writes-addresses : (t : ℕ) (row out : List ℕ) (place : ℕ) → WritingNumbered (writeAddresses t row out place)
+  pub writes-routes : (row out : List ℕ) (place : ℕ) → WritingNumbered (writeRoutes row out place)
+  pub translates : (error version : ℕ) → Numbered translation.Refused (translated error version)

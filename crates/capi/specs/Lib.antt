@@ -1,6 +1,4 @@
 pub mod Varint
-pub mod Reader
-pub mod ShortWords
 pub mod Table
 pub mod Sight
 pub mod Claims

@@ -4,10 +4,10 @@ use mathlib.Core.List.{List}
 use Rattle.refusals.specs.Numbers.{unmakeableState}
 use Rattle.look.specs.declared.Looked.the-variants.{Refused}
 use Rattle.look.specs.Looking.{lookOf}
-use Rattle.crossing.specs.declared.sight.LookAnswer.{LookAnswer}
-use Rattle.crossing.specs.declared.words.Loaded.the-variants as loaded
-use Rattle.crossing.specs.Words.{readerIn}
-use Rattle.crossing.specs.Sight.{lookedAnswer}
+use Rattle.reader_answers.specs.declared.sight.LookAnswer.{LookAnswer}
+use Rattle.reader_words.specs.declared.words.Loaded.the-variants as loaded
+use Rattle.reader_words.specs.Words.{readerIn}
+use Rattle.reader_answers.specs.Sight.{lookedAnswer}
 
 -- words that are no reader's stored form are refused 1
 unfoldable pub lookWords : List ℕ → LookAnswer

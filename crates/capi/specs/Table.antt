@@ -1,11 +1,12 @@
 -- Opening a stream and closing a side of one, in numbers. `openingOf` and `closingOf` (crate streams) decide.
 use Prim.Native.Nat.{ℕ}
 use Rattle.wire.specs.declared.units.StreamId.{StreamId}
-use Rattle.streams.specs.Tables.{Table, openingOf, tableOpened, closingOf, tableClosed}
-use Rattle.crossing.specs.declared.table.OpenedAnswer.{OpenedAnswer}
-use Rattle.crossing.specs.declared.table.SideClosedAnswer.{SideClosedAnswer}
-use Rattle.crossing.specs.Numbers.{flagOf, sideOf}
-use Rattle.crossing.specs.Table.{openedAnswer, closedAnswer}
+use Rattle.stream_records.specs.Tables.{Table, openingOf, tableOpened, closingOf, tableClosed}
+use Rattle.stream_answers.specs.declared.table.OpenedAnswer.{OpenedAnswer}
+use Rattle.stream_answers.specs.declared.table.SideClosedAnswer.{SideClosedAnswer}
+use Rattle.reader_words.specs.Numbers.{flagOf}
+use Rattle.answers.specs.Numbers.{sideOf}
+use Rattle.stream_answers.specs.Table.{openedAnswer, closedAnswer}
 
 abbrev pub streamId : ℕ → StreamId
 streamId id = record { 0 = id }

@@ -21,70 +21,71 @@ use Rattle.wire.specs.Varint.{readVarint}
 use Rattle.opening.specs.declared.Report.the-variants.{Delivered, Dropped, Skipped, Passed, AddressDelivered, Malformed}
 use Rattle.capsule.specs.declared.reader.Reader.{Reader}
 use Rattle.capsule.specs.declared.reader.Opened.the-variants as readerAs
-use Rattle.capsule.specs.declared.reader.Ended.{Ended}
-use Rattle.capsule.specs.declared.reader.Ended.the-variants.{Nothing, Capsule}
+use Rattle.planning.specs.declared.Ended.{Ended}
+use Rattle.planning.specs.declared.Ended.the-variants.{Nothing, Capsule}
 use Rattle.capsule.specs.declared.reader.FeedAnswer.{FeedAnswer}
 use Rattle.capsule.specs.declared.reader.FeedAnswer.the-variants as fedAs
 use Rattle.capsule.specs.declared.reader.CloseAnswer.{CloseAnswer}
 use Rattle.capsule.specs.declared.reader.CloseAnswer.the-variants as closedAs
-use Rattle.streams.specs.declared.table.Opening.{Opening}
-use Rattle.streams.specs.declared.table.Opening.the-variants as openingAs
-use Rattle.streams.specs.declared.table.Closing.{Closing}
-use Rattle.streams.specs.declared.table.Closing.the-variants as closingAs
-use Rattle.streams.specs.declared.table.Standing.{Standing}
-use Rattle.streams.specs.declared.table.Standing.the-variants as standingAs
-use Rattle.datagram.specs.declared.judge.Judged.{Judged}
-use Rattle.datagram.specs.declared.judge.Judged.the-variants as judged
-use Rattle.datagram.specs.Judging.{quarter}
+use Rattle.stream_records.specs.declared.answers.StreamOpened.{StreamOpened}
+use Rattle.stream_records.specs.declared.answers.StreamOpened.the-variants as openingAs
+use Rattle.stream_records.specs.declared.answers.SideClosed.{SideClosed}
+use Rattle.stream_records.specs.declared.answers.SideClosed.the-variants as closingAs
+use Rattle.stream_records.specs.declared.answers.Standing.{Standing}
+use Rattle.stream_records.specs.declared.answers.Standing.the-variants as standingAs
+use Rattle.judging.specs.declared.judge.Judged.{Judged}
+use Rattle.judging.specs.declared.judge.Judged.the-variants as judged
+use Rattle.judging.specs.Judging.{quarter}
 use Rattle.look.specs.declared.Buffer.the-variants.{Neither, Gathering, Addresses}
 use Rattle.look.specs.declared.Place.{Place}
 use Rattle.look.specs.declared.Place.the-variants as place
 use Rattle.look.specs.declared.Looked.{Looked}
 use Rattle.look.specs.declared.Looked.the-variants as lookedAs
-use Rattle.listing.specs.declared.Ending.the-variants as ending
-use Rattle.listing.specs.declared.Listed.{Listed}
-use Rattle.listing.specs.declared.Listed.the-variants as listed
+use Rattle.one_shot_listing.specs.declared.Ending.the-variants as ending
+use Rattle.one_shot_listing.specs.declared.Listed.{Listed}
+use Rattle.one_shot_listing.specs.declared.Listed.the-variants as listed
 use Rattle.http.specs.declared.errors.ErrorOf.{ErrorOf}
 use Rattle.http.specs.declared.errors.ErrorOf.the-variants as errorAs
-use Rattle.http.specs.declared.translation.Action.the-variants as action
-use Rattle.http.specs.declared.translation.Translation.{Translation}
-use Rattle.http.specs.declared.translation.Translation.the-variants as translation
-use Rattle.http.specs.Translation.{code}
-use Rattle.addresses.specs.declared.Found.{Found}
-use Rattle.addresses.specs.declared.Found.the-variants as found
-use Rattle.addresses.specs.declared.NextAddress.{NextAddress}
-use Rattle.addresses.specs.declared.NextRange.{NextRange}
-use Rattle.crossing.specs.declared.varint.VarintAnswer.{VarintAnswer}
-use Rattle.crossing.specs.declared.varint.WrittenAnswer.{WrittenAnswer}
-use Rattle.crossing.specs.declared.reader.FedAnswer.{FedAnswer}
-use Rattle.crossing.specs.declared.reader.ClosedAnswer.{ClosedAnswer}
-use Rattle.crossing.specs.declared.sight.LookAnswer.{LookAnswer}
-use Rattle.crossing.specs.declared.identifiers.QuarterAnswer.{QuarterAnswer}
-use Rattle.crossing.specs.declared.identifiers.StreamIdAnswer.{StreamIdAnswer}
-use Rattle.crossing.specs.declared.one_shot.ListingAnswer.{ListingAnswer}
-use Rattle.crossing.specs.declared.table.OpenedAnswer.{OpenedAnswer}
-use Rattle.crossing.specs.declared.table.FoundAnswer.{FoundAnswer}
-use Rattle.crossing.specs.declared.table.SideClosedAnswer.{SideClosedAnswer}
-use Rattle.crossing.specs.declared.frames.JudgedAnswer.{JudgedAnswer}
-use Rattle.crossing.specs.declared.messages.TranslationAnswer.{TranslationAnswer}
-use Rattle.crossing.specs.declared.address_capsules.AddressFound.{AddressFound}
-use Rattle.crossing.specs.declared.address_capsules.RouteFound.{RouteFound}
-use Rattle.crossing.specs.Numbers.{bitOf, errorNumber}
-use Rattle.crossing.specs.Varint.{varintAnswer, writtenAnswer}
-use Rattle.crossing.specs.Words.{wordsOf}
-use Rattle.crossing.specs.Reader as reader
-use Rattle.crossing.specs.Reader.{fedAnswer}
-use Rattle.capi.specs.Reader.{openedAt, opened}
-use Rattle.crossing.specs.Table as table
-use Rattle.crossing.specs.Table.{openedAnswer, foundAnswer}
+use Rattle.http_errors.specs.declared.translation.Action.the-variants as action
+use Rattle.http_errors.specs.declared.translation.Translation.{Translation}
+use Rattle.http_errors.specs.declared.translation.Translation.the-variants as translation
+use Rattle.http_errors.specs.Translation.{code}
+use Rattle.address_cursor.specs.declared.Found.{Found}
+use Rattle.address_cursor.specs.declared.Found.the-variants as found
+use Rattle.address_cursor.specs.declared.NextAddress.{NextAddress}
+use Rattle.address_cursor.specs.declared.NextRange.{NextRange}
+use Rattle.answers.specs.declared.varint.VarintAnswer.{VarintAnswer}
+use Rattle.answers.specs.declared.varint.WrittenAnswer.{WrittenAnswer}
+use Rattle.reader_answers.specs.declared.reader.FedAnswer.{FedAnswer}
+use Rattle.reader_answers.specs.declared.reader.ClosedAnswer.{ClosedAnswer}
+use Rattle.reader_answers.specs.declared.sight.LookAnswer.{LookAnswer}
+use Rattle.answers.specs.declared.identifiers.QuarterAnswer.{QuarterAnswer}
+use Rattle.answers.specs.declared.identifiers.StreamIdAnswer.{StreamIdAnswer}
+use Rattle.answers.specs.declared.one_shot.ListingAnswer.{ListingAnswer}
+use Rattle.stream_answers.specs.declared.table.OpenedAnswer.{OpenedAnswer}
+use Rattle.stream_answers.specs.declared.table.FoundAnswer.{FoundAnswer}
+use Rattle.stream_answers.specs.declared.table.SideClosedAnswer.{SideClosedAnswer}
+use Rattle.stream_answers.specs.declared.frames.JudgedAnswer.{JudgedAnswer}
+use Rattle.answers.specs.declared.messages.TranslationAnswer.{TranslationAnswer}
+use Rattle.answers.specs.declared.address_capsules.AddressFound.{AddressFound}
+use Rattle.answers.specs.declared.address_capsules.RouteFound.{RouteFound}
+use Rattle.reader_words.specs.Numbers.{bitOf}
+use Rattle.answers.specs.Numbers.{errorNumber}
+use Rattle.answers.specs.Varint.{varintAnswer, writtenAnswer}
+use Rattle.reader_words.specs.Words.{wordsOf}
+use Rattle.reader_answers.specs.Reader as reader
+use Rattle.reader_answers.specs.Reader.{fedAnswer}
+use Rattle.reader_calls.specs.Reader.{openedAt, opened}
+use Rattle.stream_answers.specs.Table as table
+use Rattle.stream_answers.specs.Table.{openedAnswer, foundAnswer}
 use Rattle.capi.specs.Table.{streamId}
-use Rattle.crossing.specs.Frames.{judgedAnswer}
-use Rattle.crossing.specs.Sight.{lookedAnswer}
-use Rattle.crossing.specs.Identifiers.{quarterAnswer, streamAnswer}
-use Rattle.crossing.specs.OneShot.{listingAnswer}
-use Rattle.crossing.specs.AddressCapsules.{cursor, addressFound, routeFound}
-use Rattle.crossing.specs.Messages.{translationAnswer}
-use Rattle.capi.specs.Claims.{FedSo, ClosedSo, LookedSo, ListedSo, WrittenSo, OpeningSo, StandingSo, ClosingSo, JudgedSo, TranslatedSo}
+use Rattle.stream_answers.specs.Frames.{judgedAnswer}
+use Rattle.reader_answers.specs.Sight.{lookedAnswer}
+use Rattle.answers.specs.Identifiers.{quarterAnswer, streamAnswer}
+use Rattle.answers.specs.OneShot.{listingAnswer}
+use Rattle.answers.specs.AddressCapsules.{cursor, addressFound, routeFound}
+use Rattle.answers.specs.Messages.{translationAnswer}
+use Rattle.capi.specs.Claims.{Numbered}
 
 -- ---- readings of answers
 
@@ -149,10 +150,10 @@ streamIn a = cond (bitIn (a .«too_large»)) streamAs.TooLarge (streamAs.Is (str
 unfoldable pub listedIn : ListingAnswer → Listed
 listedIn a = refusedOr (a .refusal) listed.Refused (listed.Counted (a .capsules) (a .headers) (cond (eqb (a .end) 1) ending.Clean ending.Truncated))
 
-unfoldable pub openedIn : OpenedAnswer → Opening
+unfoldable pub openedIn : OpenedAnswer → StreamOpened
 openedIn a = refusedOr (a .refusal) openingAs.Refused (openingAs.Opened (a .place))
 
-unfoldable pub sideClosedIn : SideClosedAnswer → Closing
+unfoldable pub sideClosedIn : SideClosedAnswer → SideClosed
 sideClosedIn a = refusedOr (a .refusal) closingAs.Refused (closingAs.Closed (a .place) (bitIn (a .freed)))
 
 unfoldable pub standingIn : FoundAnswer → Standing
@@ -219,22 +220,22 @@ pub record AnswersTold : Type 0 where
   pub errors : (e : ErrorOf) → ErrorSo e → errorIn (errorNumber e) ≡ e
   pub varints : (a : Varint) → VarintSo a → varintIn (varintAnswer a) ≡ a
   pub sizes : (s : List ℕ) → VarintSo (readVarint s)
-  pub writings : (a : Written) → WrittenSo a → writtenIn (writtenAnswer a) ≡ a
+  pub writings : (a : Written) → Numbered writtenAs.Refused a → writtenIn (writtenAnswer a) ≡ a
   pub refused-openings : (ws : List ℕ) (why : Refusal) → openedAt ws (readerAs.Refused why) ≡ opened (why .0) ws
   pub openings : (ws : List ℕ) (r : Reader) → openedAt ws (readerAs.Ready r) ≡ opened 0 (wordsOf r)
   -- the error is `MalformedError`'s
-  pub feedings : (a : FeedAnswer) → FedSo a → fedIn (fedAnswer a) ≡ a
-  pub closings : (a : CloseAnswer) → ClosedSo a → closedIn (reader.closedAnswer a) ≡ a
+  pub feedings : (a : FeedAnswer) → Numbered fedAs.Refused a → fedIn (fedAnswer a) ≡ a
+  pub closings : (a : CloseAnswer) → Numbered closedAs.Refused a → closedIn (reader.closedAnswer a) ≡ a
   -- by the end's number
   pub closing-errors : (a : CloseAnswer) → let c = reader.closedAnswer a in c .error ≡ getD (0 ∷ 0 ∷ 1 ∷ []) (c .end) 0
-  pub looks : (a : Looked) → LookedSo a → lookedIn (lookedAnswer a) ≡ a
+  pub looks : (a : Looked) → Numbered lookedAs.Refused a → lookedIn (lookedAnswer a) ≡ a
   pub quarters : (a : QuarterOf) → quarterIn (quarterAnswer a) ≡ a
   pub stream-ids : (a : StreamOf) → streamIn (streamAnswer a) ≡ a
-  pub listings : (a : Listed) → ListedSo a → listedIn (listingAnswer a) ≡ a
-  pub openings-of-streams : (a : Opening) → OpeningSo a → openedIn (openedAnswer a) ≡ a
-  pub closings-of-sides : (a : Closing) → ClosingSo a → sideClosedIn (table.closedAnswer a) ≡ a
-  pub standings : (a : Standing) → StandingSo a → standingIn (foundAnswer a) ≡ a
-  pub judgements : (frame : List ℕ) (a : Judged) → JudgedSo a → judgedIn (judgedAnswer frame a) ≡ a
+  pub listings : (a : Listed) → Numbered listed.Refused a → listedIn (listingAnswer a) ≡ a
+  pub openings-of-streams : (a : StreamOpened) → Numbered openingAs.Refused a → openedIn (openedAnswer a) ≡ a
+  pub closings-of-sides : (a : SideClosed) → Numbered closingAs.Refused a → sideClosedIn (table.closedAnswer a) ≡ a
+  pub standings : (a : Standing) → Numbered standingAs.Refused a → standingIn (foundAnswer a) ≡ a
+  pub judgements : (frame : List ℕ) (a : Judged) → Numbered judged.Refused a → judgedIn (judgedAnswer frame a) ≡ a
   -- by the rule's number
   pub judged-errors : (frame : List ℕ) (a : Judged) → let j = judgedAnswer frame a in j .error ≡ getD (0 ∷ 3 ∷ 4 ∷ 5 ∷ 0 ∷ 0 ∷ 2 ∷ 0 ∷ 0 ∷ []) (j .rule) 0
   -- the payload follows the quarter; there is none but with rule 8
@@ -243,7 +244,7 @@ pub record AnswersTold : Type 0 where
       → readVarint frame ≡ Whole n size
       → let j = judgedAnswer frame (judged.Delivered q i) in (j .start ≡ size) × (j .length ≡ length frame - size)
   pub no-payloads : (frame : List ℕ) (a : Judged) → let j = judgedAnswer frame a in j .rule < 8 → (j .start ≡ 0) × (j .length ≡ 0)
-  pub translations : (a : Translation) → TranslatedSo a → translationIn (translationAnswer a) ≡ a
+  pub translations : (a : Translation) → Numbered translation.Refused a → translationIn (translationAnswer a) ≡ a
   pub addresses : (a : NextAddress) → addressIn (addressFound a) ≡ a
   pub reserved : (a : NextAddress) → addressFound a .address .reserved ≡ replicate 6 0
   pub ranges : (a : NextRange) → rangeIn (routeFound a) ≡ a

@@ -2,8 +2,8 @@
 use Prim.Native.Nat.{ℕ}
 use mathlib.Core.List.{List}
 use Rattle.wire.specs.Writing.{Writing}
-use Rattle.crossing.specs.declared.varint.WrittenAnswer.{WrittenAnswer}
-use Rattle.crossing.specs.Varint.{writtenAnswer}
+use Rattle.answers.specs.declared.varint.WrittenAnswer.{WrittenAnswer}
+use Rattle.answers.specs.Varint.{writtenAnswer}
 
 -- the answer, and the whole output afterwards
 pub record Answered : Type 0 where

@@ -1,25 +1,25 @@
 // Address capsules: values checked, their entries handed out, and whole capsules written.
 ghost use mathlib.Core.Path.{_≡_};
 ghost use Rattle.addresses.specs.Addresses.{assign, request, wellFormed};
-ghost use Rattle.addresses.specs.Handing.{nextAddress, nextRange};
+ghost use Rattle.address_cursor.specs.Handing.{nextAddress, nextRange};
 ghost use Rattle.address_writer.specs.Writer.{writeAddresses, writeRoutes};
-ghost use Rattle.crossing.specs.Numbers.{bitOf};
+ghost use Rattle.reader_words.specs.Numbers.{bitOf};
 ghost use Rattle.capi.specs.Varint.{wrote, wroteBy};
-ghost use Rattle.crossing.specs.AddressCapsules.{cursor, addressFound, routeFound};
+ghost use Rattle.answers.specs.AddressCapsules.{cursor, addressFound, routeFound};
+use address_cursor::Cursor;
+use address_cursor::next_address;
+use address_cursor::next_range;
+use address_rules::well_formed;
 use address_writer::write_assign;
 use address_writer::write_request;
 use address_writer::write_routes;
-use addresses::Cursor;
-use addresses::next_address;
-use addresses::next_range;
-use addresses::well_formed;
-use crossing::address_capsules::AddressFound;
-use crossing::address_capsules::RouteFound;
-use crossing::address_capsules::address_found;
-use crossing::address_capsules::route_found;
-use crossing::numbers::bit_of;
-use crossing::varint::WrittenAnswer;
-use crossing::varint::written_answer;
+use answers::address_capsules::AddressFound;
+use answers::address_capsules::RouteFound;
+use answers::address_capsules::address_found;
+use answers::address_capsules::route_found;
+use answers::varint::WrittenAnswer;
+use answers::varint::written_answer;
+use reader_words::numbers::bit_of;
 
 #[no_mangle]
 pub extern "C" fn mrz_address_value_good(ctype: u64, value: &[u8]) -> u64

@@ -1,21 +1,21 @@
 // QUIC DATAGRAM payloads judged; capsules and frames written.
 ghost use mathlib.Core.Path.{_≡_};
-ghost use Rattle.datagram.specs.Judging.{judgedOf};
-ghost use Rattle.datagram.specs.Sending.{putCapsule, putCapsuleHeader, writeCapsule, writeFrame, writeFrameHeader};
+ghost use Rattle.judging.specs.Judging.{judgedOf};
+ghost use Rattle.sending.specs.Sending.{putCapsule, putCapsuleHeader, writeCapsule, writeFrame, writeFrameHeader};
 ghost use Rattle.capi.specs.Varint.{wrote, wroteBy};
 ghost use Rattle.capi.specs.Table.{streamId};
-ghost use Rattle.crossing.specs.Frames.{judgedAnswer};
-use crossing::frames::JudgedAnswer;
-use crossing::frames::judged_answer;
-use crossing::varint::WrittenAnswer;
-use crossing::varint::written_answer;
+ghost use Rattle.stream_answers.specs.Frames.{judgedAnswer};
+use answers::varint::WrittenAnswer;
+use answers::varint::written_answer;
 use datagram::judge::judge;
 use datagram::write::write_capsule;
-use datagram::write::write_datagram;
-use datagram::write::write_datagram_header;
 use datagram::write::write_frame;
 use datagram::write::write_frame_header;
-use streams::record::StreamRecord;
+use sending::write::write_datagram;
+use sending::write::write_datagram_header;
+use stream_answers::frames::JudgedAnswer;
+use stream_answers::frames::judged_answer;
+use stream_records::record::StreamRecord;
 use wire::units::StreamId;
 
 // The stated stream limit, in quarters, and the datagram limit.

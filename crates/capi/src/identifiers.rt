@@ -1,12 +1,12 @@
 // Stream IDs and quarter stream IDs, converted.
 ghost use mathlib.Core.Path.{_≡_};
 ghost use Rattle.wire.specs.Units.{quarterOf, streamOf};
-ghost use Rattle.crossing.specs.Identifiers.{quarterAnswer, streamAnswer};
+ghost use Rattle.answers.specs.Identifiers.{quarterAnswer, streamAnswer};
 ghost use Rattle.capi.specs.Table.{streamId};
-use crossing::identifiers::QuarterAnswer;
-use crossing::identifiers::StreamIdAnswer;
-use crossing::identifiers::quarter_answer;
-use crossing::identifiers::stream_answer;
+use answers::identifiers::QuarterAnswer;
+use answers::identifiers::StreamIdAnswer;
+use answers::identifiers::quarter_answer;
+use answers::identifiers::stream_answer;
 use wire::units::Quarter;
 use wire::units::StreamId;
 

@@ -3,21 +3,22 @@ ghost use mathlib.Core.Path.{_≡_};
 ghost use Rattle.http.specs.Field.{inUse};
 ghost use Rattle.http.specs.Messages.{fieldCounts, requestMalformed, responseMalformed};
 ghost use Rattle.http.specs.Settings.{receivedSetting, settingError};
-ghost use Rattle.http.specs.Translation.{translated};
-ghost use Rattle.crossing.specs.Numbers.{flagOf, statusOf, bitOf, errorNumber};
-ghost use Rattle.crossing.specs.Messages.{messageOf, translationAnswer};
-use crossing::messages::TranslationAnswer;
-use crossing::messages::message_of;
-use crossing::messages::translation_answer;
-use crossing::numbers::bit_of;
-use crossing::numbers::error_number;
-use crossing::numbers::flag_of;
-use crossing::numbers::status_of;
+ghost use Rattle.http_errors.specs.Translation.{translated};
+ghost use Rattle.reader_words.specs.Numbers.{flagOf, bitOf};
+ghost use Rattle.answers.specs.Numbers.{statusOf, errorNumber};
+ghost use Rattle.answers.specs.Messages.{messageOf, translationAnswer};
+use answers::messages::TranslationAnswer;
+use answers::messages::message_of;
+use answers::messages::translation_answer;
+use answers::numbers::error_number;
+use answers::numbers::status_of;
 use http::field::in_use;
 use http::messages::request_malformed;
 use http::messages::response_malformed;
 use http::settings::received;
-use http::translation::translate;
+use http_errors::translation::translate;
+use reader_words::numbers::bit_of;
+use reader_words::numbers::flag_of;
 
 #[no_mangle]
 pub extern "C" fn mrz_setting_error(value: u64, stored: u64) -> u64

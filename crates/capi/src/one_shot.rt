@@ -1,10 +1,10 @@
 // The one-shot listing.
 ghost use mathlib.Core.Path.{_≡_};
-ghost use Rattle.listing.specs.Listing.{listingOf};
-ghost use Rattle.crossing.specs.OneShot.{listingAnswer};
-use crossing::one_shot::ListingAnswer;
-use crossing::one_shot::listing_answer;
-use listing::list;
+ghost use Rattle.one_shot_listing.specs.Listing.{listingOf};
+ghost use Rattle.answers.specs.OneShot.{listingAnswer};
+use answers::one_shot::ListingAnswer;
+use answers::one_shot::listing_answer;
+use one_shot_listing::list;
 
 #[no_mangle]
 pub extern "C" fn mrz_list(bytes: &[u8]) -> ListingAnswer

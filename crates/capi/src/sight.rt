@@ -1,12 +1,12 @@
 // A look at a reader.
 ghost use mathlib.Core.Path.{_≡_};
 ghost use Rattle.capi.specs.Sight.{lookWords};
-use crossing::sight::LookAnswer;
-use crossing::sight::looked_answer;
-use crossing::words::Loaded;
-use crossing::words::load;
 use look::Looked;
 use look::look;
+use reader_answers::sight::LookAnswer;
+use reader_answers::sight::looked_answer;
+use reader_words::words::Loaded;
+use reader_words::words::load;
 use refusals::Refusal;
 
 #[no_mangle]

@@ -1,17 +1,17 @@
 // The stream table: a row of records that the host keeps.
 ghost use mathlib.Core.Path.{_≡_};
-ghost use Rattle.streams.specs.Tables.{standingOf};
-ghost use Rattle.crossing.specs.Table.{foundAnswer};
+ghost use Rattle.stream_records.specs.Tables.{standingOf};
+ghost use Rattle.stream_answers.specs.Table.{foundAnswer};
 ghost use Rattle.capi.specs.Table.{streamId, opened, openTable, closed, closeTable};
-use crossing::numbers::flag_of;
-use crossing::numbers::side_of;
-use crossing::table::FoundAnswer;
-use crossing::table::OpenedAnswer;
-use crossing::table::SideClosedAnswer;
-use crossing::table::closed_answer;
-use crossing::table::found_answer;
-use crossing::table::opened_answer;
-use streams::record::StreamRecord;
+use answers::numbers::side_of;
+use reader_words::numbers::flag_of;
+use stream_answers::table::FoundAnswer;
+use stream_answers::table::OpenedAnswer;
+use stream_answers::table::SideClosedAnswer;
+use stream_answers::table::closed_answer;
+use stream_answers::table::found_answer;
+use stream_answers::table::opened_answer;
+use stream_records::record::StreamRecord;
 use streams::table::close_side;
 use streams::table::find_stream;
 use streams::table::open_stream;

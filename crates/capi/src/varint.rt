@@ -2,12 +2,12 @@
 ghost use mathlib.Core.Path.{_≡_};
 ghost use Rattle.wire.specs.Varint.{readVarint};
 ghost use Rattle.wire.specs.Writing.{writeVarint};
-ghost use Rattle.crossing.specs.Varint.{varintAnswer};
+ghost use Rattle.answers.specs.Varint.{varintAnswer};
 ghost use Rattle.capi.specs.Varint.{wrote, wroteBy};
-use crossing::varint::VarintAnswer;
-use crossing::varint::WrittenAnswer;
-use crossing::varint::varint_answer;
-use crossing::varint::written_answer;
+use answers::varint::VarintAnswer;
+use answers::varint::WrittenAnswer;
+use answers::varint::varint_answer;
+use answers::varint::written_answer;
 use wire::varint::read_varint;
 use wire::varint::write_varint;
 

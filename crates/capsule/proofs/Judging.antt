@@ -1,8 +1,6 @@
 -- The judgement of a value, as the code asks. Assumes nothing.
 use Rattle.walks.proofs.Words.{_≡_, sym, _∙_, ℕ, _<_, arith, Bool, true, false, List, length, take, take-all}
-use Rattle.opening.specs.declared.Report.the-variants.{AddressDelivered, Malformed}
-use Rattle.addresses.specs.Addresses.{wellFormed}
-use Rattle.opening.specs.Kinds.{judged}
+use Rattle.capsule.proofs.Terms.{AddressDelivered, Malformed, wellFormed, judged}
 
 module _ (t n : ℕ) (a v : List ℕ) (b : Bool) (e : b ≡ wellFormed t v) (s : take n a ≡ v) where
   pub judged-good : b ≡ true → AddressDelivered t n ≡ judged (AddressDelivered t n) (take n a)

@@ -1,6 +1,4 @@
-pub mod Planning
+mod Terms
 pub mod Moving
 pub mod Verdicts
-pub mod Reaching
 pub mod Judging
-pub mod ShortWays

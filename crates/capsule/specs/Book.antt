@@ -7,16 +7,17 @@ use lib.ListN.{length, drop}
 use Rattle.refusals.specs.Numbers.{finished}
 use Rattle.opening.specs.declared.Opening.{Opening}
 use Rattle.opening.specs.declared.Report.{Report}
-use Rattle.capsule.specs.declared.reader.Ended.{Ended}
-use Rattle.capsule.specs.declared.reader.Ended.the-variants.{Nothing, Capsule}
+use Rattle.planning.specs.declared.Ended.{Ended}
+use Rattle.planning.specs.declared.Ended.the-variants.{Nothing, Capsule}
 use Rattle.capsule.specs.declared.reader.CloseAnswer.{CloseAnswer}
 use Rattle.capsule.specs.declared.reader.CloseAnswer.the-variants.{Clean, Truncated}
-use Rattle.capsule.specs.declared.reader.Verdict.{Verdict}
-use Rattle.capsule.specs.declared.reader.Verdict.the-variants.{Accepted, Refused}
+use Rattle.opening.specs.declared.Verdict.{Verdict}
+use Rattle.opening.specs.declared.Verdict.the-variants.{Accepted, Refused}
 use Rattle.capsule.specs.Grammar as grammar
 use Rattle.capsule.specs.Grammar.{Stage, inType, inLength, inValue, Parts, partsBy}
 use Rattle.opening.specs.Kinds.{extentOf, reportOf, judged, onlyDelivered, forwards}
-use Rattle.capsule.specs.Calls.{Lent, Call, feed, close, Reply, refused, fed, closed, lentVerdict, finishesIn}
+use Rattle.capsule.specs.Calls.{Lent, Call, feed, close, Reply, refused, fed, closed, finishesIn}
+use Rattle.opening.specs.Lent.{lentVerdict}
 
 -- ---- the stream, as the opening has it read: the ONE place where it is asked what is complete
 

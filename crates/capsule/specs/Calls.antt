@@ -1,20 +1,12 @@
 -- Calls on an open reader, and what is compared of their answers (demand 3).
-use Prim.Native.Nat.{ℕ, _+_}
-use mathlib.Core.Bool.{true, false, Bool, cond}
+use Prim.Native.Nat.{ℕ}
+use mathlib.Core.Bool.{false, Bool}
 use mathlib.Core.List.{List, [], _∷_}
-use lib.Dec.{leb}
 use Rattle.refusals.specs.declared.Refusal.{Refusal}
-use Rattle.refusals.specs.Numbers.{gatheringTooShort, addressesTooShort, outputTooShort}
-use Rattle.opening.specs.declared.Role.{Role}
-use Rattle.opening.specs.declared.Role.the-variants.{Endpoint, Intermediary}
-use Rattle.opening.specs.declared.Opening.{Opening}
-use Rattle.capsule.specs.declared.reader.Ended.{Ended}
-use Rattle.capsule.specs.declared.reader.Ended.the-variants.{Nothing, Capsule}
+use Rattle.planning.specs.declared.Ended.{Ended}
+use Rattle.planning.specs.declared.Ended.the-variants.{Nothing, Capsule}
 use Rattle.capsule.specs.declared.reader.CloseAnswer.{CloseAnswer}
-use Rattle.capsule.specs.declared.reader.Verdict.{Verdict}
-use Rattle.capsule.specs.declared.reader.Verdict.the-variants.{Accepted, Refused}
-use Rattle.addresses.specs.Addresses.{longestAddressValue}
-use Rattle.opening.specs.Kinds.{opted, finishes}
+use Rattle.opening.specs.Kinds.{finishes}
 
 -- the buffers that a feeding is lent: the second one is for address capsules
 pub record Lent : Type 0 where
@@ -40,21 +32,6 @@ pub data Reply : Type 0 where
 unfoldable pub finishesIn : Ended → Bool
 finishesIn Nothing = false
 finishesIn (Capsule r) = finishes r
-
--- refusals 4, 18 and 5 of a feeding go by the lengths alone
-unfoldable pub outputVerdict : Role → ℕ → ℕ → Verdict
-outputVerdict Endpoint piece room = Accepted
-outputVerdict Intermediary piece room = cond (leb (piece + 8) room) Accepted (Refused outputTooShort)
-
-unfoldable pub addressesVerdict : Bool → ℕ → Verdict → Verdict
-addressesVerdict true addresses v = cond (leb longestAddressValue addresses) v (Refused addressesTooShort)
-addressesVerdict false addresses v = v
-
-unfoldable pub lentVerdict : Opening → ℕ → ℕ → ℕ → ℕ → Verdict
-lentVerdict op piece gathering addresses output =
-    cond (leb (op .limit) gathering)
-    (addressesVerdict (opted op) addresses (outputVerdict (op .role) piece output))
-    (Refused gatheringTooShort)
 
 -- a list of calls, one after another, on anything that answers calls
 unfoldable pub run : {S : Type 0} → (S → Call → S × Reply) → S → List Call → S × List Reply

@@ -4,5 +4,3 @@ pub mod Book
 pub mod State
 pub mod Reader
 pub mod Moves
-pub mod Reaching
-pub mod Short

@@ -5,8 +5,8 @@ use mathlib.Core.List.{List}
 use lib.ListN.{length, drop}
 use Rattle.wire.specs.Partial.{partialOf}
 use Rattle.opening.specs.declared.Opening.{Opening}
-use Rattle.capsule.specs.declared.reader.Phase.{Phase}
-use Rattle.capsule.specs.declared.reader.Phase.the-variants.{InType, InLength, InValue}
+use Rattle.planning.specs.declared.Phase.{Phase}
+use Rattle.planning.specs.declared.Phase.the-variants.{InType, InLength, InValue}
 use Rattle.capsule.specs.declared.reader.Reader.{Reader}
 use Rattle.capsule.specs.Grammar.{Stage, inType, inLength, inValue, Parts}
 use Rattle.opening.specs.Kinds.{extentOf}

@@ -1,36 +1,27 @@
 // The reader: its state goes in by value and comes back.
 ghost use mathlib.Core.Path.{_≡_};
-ghost use lib.ListN.{length};
-ghost use mathlib.Core.Bool.{true};
-ghost use Rattle.capsule.specs.declared.reader.Phase.the-variants.{InValue};
+ghost use lib.ListN.{length, take};
+ghost use Rattle.opening.specs.declared.Verdict.the-variants.{Accepted};
 ghost use Rattle.opening.specs.declared.Report.the-variants.{AddressDelivered};
-ghost use Rattle.capsule.specs.declared.reader.Verdict.the-variants.{Accepted};
-ghost use Rattle.capsule.specs.Calls.{lent, lentVerdict, finishesIn};
-ghost use Rattle.opening.specs.Kinds.{judged, finishes};
-ghost use lib.ListN.{take};
-ghost use Rattle.capsule.specs.Reader.{openOf, isMakeablePhase, isMakeable, verdictOf, lengthOf, judgedIn, feeding, takeOf, feedOf, endAt, closeOf};
-use crate::moves::forward_bytes;
-use crate::moves::store_bytes;
-use crate::plan::held_of;
-use crate::plan::plan_of;
-use addresses::well_formed;
-use opening::Kind;
+ghost use Rattle.opening.specs.Kinds.{lengthOf, judged};
+ghost use Rattle.capsule.specs.Calls.{lent, finishesIn};
+ghost use Rattle.capsule.specs.Reader.{openOf, isMakeable, verdictOf, judgedIn, feeding, takeOf, feedOf, endAt, closeOf};
+use address_rules::well_formed;
+use moving::forward_bytes;
+use moving::store_bytes;
 use opening::Opening;
 use opening::Report;
 use opening::Role;
+use opening::Verdict;
+use opening::is_last_report;
+use opening::lent_verdict;
+use planning::Ended;
+use planning::Phase;
+use planning::held_of;
+use planning::is_makeable_phase;
+use planning::plan_of;
 use refusals::Refusal;
 use wire::partial::Partial;
-use wire::varint::Varint;
-
-// How far the capsule that stands at the end of the stream has come.
-pub enum Phase {
-    // in its type
-    InType(Partial),
-    // in its length, behind its type
-    InLength(u64, Partial),
-    // in its value: its type and length, and how many bytes are to come
-    InValue(u64, u64, u64),
-}
 
 pub struct Reader {
     pub opening: Opening,
@@ -41,12 +32,6 @@ pub struct Reader {
 pub enum Opened {
     Refused(Refusal),
     Ready(Reader),
-}
-
-// What ended in a feeding.
-pub enum Ended {
-    Nothing,
-    Capsule(Report),
 }
 
 pub enum FeedAnswer {
@@ -72,80 +57,6 @@ pub enum CloseAnswer {
 pub struct Closed {
     pub reader: Reader,
     pub answer: CloseAnswer,
-}
-
-// What stands before a call: its refusal, or none.
-pub enum Verdict {
-    Accepted,
-    Refused(Refusal),
-}
-
-// Whether a value may have so many bytes to come.
-pub(crate) fn is_makeable_value(op: Opening, ctype: u64, length: u64, left: u64) -> bool
-    ensures { λ r. ⌜ r ≡ isMakeablePhase op (InValue ctype length left) ⌝ }
-{
-    if ctype > Varint::MAX {
-        return false;
-    }
-    if length > Varint::MAX {
-        return false;
-    }
-    if left == 0 {
-        return false;
-    }
-    left <= op.extent(ctype, length)
-}
-
-// Whether some stream comes so far.
-fn is_makeable_phase(op: Opening, phase: Phase) -> bool
-    ensures { λ r. ⌜ r ≡ isMakeablePhase op phase ⌝ }
-{
-    match phase {
-        Phase::InType(part) => part.is_possible(),
-        Phase::InLength(ctype, part) => {
-            if ctype > Varint::MAX {
-                return false;
-            }
-            part.is_possible()
-        }
-        Phase::InValue(ctype, length, left) => is_makeable_value(op, ctype, length, left),
-    }
-}
-
-// What the lengths of the piece and of the lent buffers refuse.
-pub(crate) fn lent_verdict(
-    op: Opening,
-    piece: usize,
-    gathering: usize,
-    addresses: usize,
-    output: usize,
-) -> Verdict
-    ensures { λ r. ⌜ r ≡ lentVerdict op piece gathering addresses output ⌝ }
-{
-    if (gathering as u64) < op.limit {
-        return Verdict::Refused(Refusal::GATHERING_TOO_SHORT);
-    }
-    let role = op.role;
-    match role {
-        Role::Endpoint => {
-            if !op.addresses {
-                return Verdict::Accepted;
-            }
-            if (addresses as u64) < Kind::LONGEST_ADDRESS_VALUE {
-                return Verdict::Refused(Refusal::ADDRESSES_TOO_SHORT);
-            }
-            Verdict::Accepted
-        }
-        Role::Intermediary => {
-            if output < 8 {
-                return Verdict::Refused(Refusal::OUTPUT_TOO_SHORT);
-            }
-            if output - 8 < piece {
-                return Verdict::Refused(Refusal::OUTPUT_TOO_SHORT);
-            }
-            Verdict::Accepted
-        }
-    }
 }
 
 impl Reader {
@@ -193,6 +104,56 @@ impl Reader {
         }
         let opening = self.opening;
         lent_verdict(opening, piece, gathering, addresses, output)
+    }
+
+    // Consumes the piece up to the end of the first capsule to end in it, or all of it.
+    pub fn feed(
+        self,
+        piece: &[u8],
+        gathering: &mut [u8],
+        addresses: &mut [u8],
+        output: &mut [u8],
+    ) -> Fed
+        ensures { λ r. ⌜ feeding (r .reader) (r .answer) (lent (now (gathering .exit)) (now (addresses .exit)) (now (output .exit))) ≡ feedOf self (now (piece .entry)) (lent (now (gathering .entry)) (now (addresses .entry)) (now (output .entry))) ⌝ }
+    {
+        let verdict = self.verdict(piece.len(), gathering.len(), addresses.len(), output.len());
+        match verdict {
+            Verdict::Refused(why) => Fed {
+                reader: self,
+                answer: FeedAnswer::Refused(why),
+            },
+            Verdict::Accepted => self.take(piece, gathering, addresses, output),
+        }
+    }
+
+    // The stream ends here, cleanly.
+    pub fn close(self) -> Closed
+        ensures { λ r. ⌜ r ≡ closeOf self ⌝ }
+    {
+        if !self.is_makeable() {
+            return Closed {
+                reader: self,
+                answer: CloseAnswer::Refused(Refusal::UNMAKEABLE_STATE),
+            };
+        }
+        if self.finished {
+            return Closed {
+                reader: self,
+                answer: CloseAnswer::Refused(Refusal::FINISHED),
+            };
+        }
+        let opening = self.opening;
+        let phase = self.phase;
+        let end = end_at(phase);
+        let reader = Reader {
+            opening: opening,
+            phase: phase,
+            finished: true,
+        };
+        Closed {
+            reader: reader,
+            answer: end,
+        }
     }
 
     // A feeding that is not refused: plan first, then move the bytes.
@@ -245,55 +206,24 @@ impl Reader {
             },
         }
     }
+}
 
-    // Consumes the piece up to the end of the first capsule to end in it, or all of it.
-    pub fn feed(
-        self,
-        piece: &[u8],
-        gathering: &mut [u8],
-        addresses: &mut [u8],
-        output: &mut [u8],
-    ) -> Fed
-        ensures { λ r. ⌜ feeding (r .reader) (r .answer) (lent (now (gathering .exit)) (now (addresses .exit)) (now (output .exit))) ≡ feedOf self (now (piece .entry)) (lent (now (gathering .entry)) (now (addresses .entry)) (now (output .entry))) ⌝ }
-    {
-        let verdict = self.verdict(piece.len(), gathering.len(), addresses.len(), output.len());
-        match verdict {
-            Verdict::Refused(why) => Fed {
-                reader: self,
-                answer: FeedAnswer::Refused(why),
-            },
-            Verdict::Accepted => self.take(piece, gathering, addresses, output),
-        }
+fn judge(ended: Ended, addresses: &[u8]) -> Ended
+    ensures { λ r. ⌜ r ≡ judgedIn ended (now (addresses .entry)) ⌝ }
+{
+    match ended {
+        Ended::Nothing => ended,
+        Ended::Capsule(report) => Ended::Capsule(judge_report(report, addresses)),
     }
+}
 
-    // The stream ends here, cleanly.
-    pub fn close(self) -> Closed
-        ensures { λ r. ⌜ r ≡ closeOf self ⌝ }
-    {
-        if !self.is_makeable() {
-            return Closed {
-                reader: self,
-                answer: CloseAnswer::Refused(Refusal::UNMAKEABLE_STATE),
-            };
-        }
-        if self.finished {
-            return Closed {
-                reader: self,
-                answer: CloseAnswer::Refused(Refusal::FINISHED),
-            };
-        }
-        let opening = self.opening;
-        let phase = self.phase;
-        let end = end_at(phase);
-        let reader = Reader {
-            opening: opening,
-            phase: phase,
-            finished: true,
-        };
-        Closed {
-            reader: reader,
-            answer: end,
-        }
+// Whether nothing may follow.
+fn is_last(ended: Ended) -> bool
+    ensures { λ r. ⌜ r ≡ finishesIn ended ⌝ }
+{
+    match ended {
+        Ended::Nothing => false,
+        Ended::Capsule(report) => is_last_report(report),
     }
 }
 
@@ -308,8 +238,34 @@ fn end_at(phase: Phase) -> CloseAnswer
             }
             CloseAnswer::Truncated
         }
-        Phase::InLength(_, _) => CloseAnswer::Truncated,
-        Phase::InValue(_, _, _) => CloseAnswer::Truncated,
+        Phase::InLength { ctype: _, part: _ } => CloseAnswer::Truncated,
+        Phase::InValue {
+            ctype: _,
+            length: _,
+            left: _,
+        } => CloseAnswer::Truncated,
+    }
+}
+
+fn judge_report(report: Report, addresses: &[u8]) -> Report
+    ensures { λ r. ⌜ r ≡ judged report (take (lengthOf report) (now (addresses .entry))) ⌝ }
+{
+    match report {
+        Report::Delivered { length: _ } => report,
+        Report::Dropped { length: _ } => report,
+        Report::Skipped {
+            ctype: _,
+            length: _,
+        } => report,
+        Report::Passed {
+            ctype: _,
+            length: _,
+        } => report,
+        Report::AddressDelivered { ctype, length } => judge_address(ctype, length, addresses),
+        Report::Malformed {
+            ctype: _,
+            length: _,
+        } => report,
     }
 }
 
@@ -319,58 +275,13 @@ fn judge_address(ctype: u64, length: u64, addresses: &[u8]) -> Report
 {
     if (addresses.len() as u64) < length {
         if well_formed(ctype, addresses) {
-            return Report::AddressDelivered(ctype, length);
+            return Report::AddressDelivered { ctype, length };
         }
-        return Report::Malformed(ctype, length);
+        return Report::Malformed { ctype, length };
     }
     let n = length as usize;
     if well_formed(ctype, &addresses[..n]) {
-        return Report::AddressDelivered(ctype, length);
+        return Report::AddressDelivered { ctype, length };
     }
-    Report::Malformed(ctype, length)
-}
-
-fn judge_report(report: Report, addresses: &[u8]) -> Report
-    ensures { λ r. ⌜ r ≡ judged report (take (lengthOf report) (now (addresses .entry))) ⌝ }
-{
-    match report {
-        Report::Delivered(_) => report,
-        Report::Dropped(_) => report,
-        Report::Skipped(_, _) => report,
-        Report::Passed(_, _) => report,
-        Report::AddressDelivered(ctype, length) => judge_address(ctype, length, addresses),
-        Report::Malformed(_, _) => report,
-    }
-}
-
-fn judge(ended: Ended, addresses: &[u8]) -> Ended
-    ensures { λ r. ⌜ r ≡ judgedIn ended (now (addresses .entry)) ⌝ }
-{
-    match ended {
-        Ended::Nothing => ended,
-        Ended::Capsule(report) => Ended::Capsule(judge_report(report, addresses)),
-    }
-}
-
-// Whether nothing may follow.
-fn is_last_report(report: Report) -> bool
-    ensures { λ r. ⌜ r ≡ finishes report ⌝ }
-{
-    match report {
-        Report::Delivered(_) => false,
-        Report::Dropped(_) => false,
-        Report::Skipped(_, _) => false,
-        Report::Passed(_, _) => false,
-        Report::AddressDelivered(_, _) => false,
-        Report::Malformed(_, _) => true,
-    }
-}
-
-fn is_last(ended: Ended) -> bool
-    ensures { λ r. ⌜ r ≡ finishesIn ended ⌝ }
-{
-    match ended {
-        Ended::Nothing => false,
-        Ended::Capsule(report) => is_last_report(report),
-    }
+    Report::Malformed { ctype, length }
 }

@@ -1,30 +1,9 @@
 -- Address capsules, for every role, limit, draft setting and opting in. Assumes nothing.
-use Rattle.walks.proofs.Words.{_≡_, refl, sym, ap, _∙_, subst, _↔_, inl, inr, ℕ, _+_, _≤_, _<_, arith, Bool, true, false, cond, _&&_, _||_, List, length, leb, eqb, leb-true, leb-false, le-leb, lt-leb, eqb-true, eq-eqb}
-use Rattle.refusals.specs.Numbers.{unmakeableState, finished, gatheringTooShort, addressesTooShort, outputTooShort}
-use Rattle.refusals.specs.declared.Refusal.{Refusal}
-use Rattle.wire.proofs.Parts.{both, parted}
-use Rattle.addresses.specs.Addresses.{isAddressType, longestAddressValue, wellFormed}
-use Rattle.opening.specs.declared.Role.{Role}
-use Rattle.opening.specs.declared.Role.the-variants.{Endpoint, Intermediary}
-use Rattle.opening.specs.declared.Kind.{Kind}
-use Rattle.opening.specs.declared.Kind.the-variants.{Datagram, Address, Unknown}
-use Rattle.opening.specs.declared.Opening.{Opening}
-use Rattle.opening.specs.declared.Report.{Report}
-use Rattle.opening.specs.declared.Report.the-variants.{Delivered, Dropped, AddressDelivered, Malformed}
+use Rattle.walks.proofs.Words.{_≡_, refl, sym, ap, _∙_, _↔_, inl, inr, ℕ, _≤_, _<_, arith, Bool, true, false, cond, _&&_, _||_, List, length, leb, eqb, leb-true, le-leb, lt-leb, eqb-true, eq-eqb}
+use Rattle.capsule_laws.proofs.Terms.{unmakeableState, finished, gatheringTooShort, addressesTooShort, outputTooShort, Refusal, both, parted, isAddressType, longestAddressValue, Role, Endpoint, Intermediary, Kind, Datagram, Address, Unknown, Opening, Reader, Verdict, Accepted, Refused, opted, optedBy, kindOf, extentBy, extentOf, gathersBy, gathers, keepsBy, keeps, Lent, lentVerdict, openOf, isOpening, isMakeable, verdictOf, fedBy, takeOf, feedBy, feedOf, kind-address, zero-one, no-true, endpoint-on, addresses-short, IsAddress, AddressExactly, CompleteExactly, AddressesTooShortExactly, IsDatagram, GathersExactly, KeepsExactly, OpenExactly, OthersAsBefore}
 use Rattle.capsule.specs.declared.reader.FeedAnswer.the-variants as fedAs
-use Rattle.capsule.specs.declared.reader.Reader.{Reader}
-use Rattle.capsule.specs.declared.reader.Verdict.{Verdict}
-use Rattle.capsule.specs.declared.reader.Verdict.the-variants.{Accepted, Refused}
-use Rattle.capsule.specs.Grammar.{Capsule}
-use Rattle.opening.specs.Kinds.{opted, optedBy, kindOf, extentBy, extentOf, reportBy, reportOf, judged, gathersBy, gathers, keepsBy, keeps}
-use Rattle.capsule.specs.Calls.{Lent, outputVerdict, addressesVerdict, lentVerdict}
-use Rattle.capsule.specs.Book.{reported}
-use Rattle.capsule.specs.Reader.{openOf, isOpening, isMakeable, verdictOf, fedBy, takeOf, feedBy, feedOf}
-use Rattle.opening.proofs.Kinding.{kind-address}
-use Rattle.capsule.proofs.Planning.{zero-one, no-true}
-use Rattle.capsule.proofs.Verdicts.{endpoint-on, addresses-short}
 use Rattle.capsule_laws.specs.Before as before
-use Rattle.capsule_laws.specs.AddressClaims.{IsAddress, AddressExactly, CompleteExactly, MalformedExactly, AddressDeliveredExactly, AddressesTooShortExactly, IsDatagram, GathersExactly, KeepsExactly, OpenExactly, OthersAsBefore}
+use Rattle.capsule_laws.proofs.Graphs.{Lends, shortGathering, shortAddresses, shortOutput, enough, lends}
 
 -- ---- which capsules
 
@@ -72,81 +51,6 @@ complete-exactly op t n = record { too-long = long; all = whole }
         go Address e = unfold extentBy longestAddressValue in rw (le-leb n 1024 (h (is-address op t e)))
         go Unknown e = unfold extentBy in refl
 
--- ---- what is reported
-
--- the two reports of address capsules
-verdict : Bool → ℕ → ℕ → Report
-verdict true t n = AddressDelivered t n
-verdict false t n = Malformed t n
-
-same-verdict : (a b : Bool) (t n u m : ℕ) → verdict a t n ≡ verdict b u m → (a ≡ b) × (t ≡ u) × (n ≡ m)
-unfolding verdict
-same-verdict true true t n u m e = (refl, cc, cc)
-same-verdict true false t n u m e = zero-one (cc)
-same-verdict false true t n u m e = zero-one (cc)
-same-verdict false false t n u m e = (refl, cc, cc)
-
-module _ (op : Opening) (c : Capsule) where
-  good : ℕ → ℕ → Bool
-  good t n = leb n 1024 && wellFormed t (c .value)
-
-  by-kind : Kind → Report
-  by-kind k = judged (reportBy (op .role) (op .limit) k (c .ctype) (c .size)) (c .value)
-
-  of-address : by-kind Address ≡ verdict (good (c .ctype) (c .size)) (c .ctype) (c .size)
-  unfolding by-kind good reportBy longestAddressValue
-  of-address = go (leb (c .size) 1024) (wellFormed (c .ctype) (c .value)) refl
-    where
-      go : (b g : Bool) → wellFormed (c .ctype) (c .value) ≡ g → judged (cond b (AddressDelivered (c .ctype) (c .size)) (Malformed (c .ctype) (c .size))) (c .value) ≡ verdict (b && g) (c .ctype) (c .size)
-      go true true e = unfold judged verdict in rw e
-      go true false e = unfold judged verdict in rw e
-      go false g e = unfold judged verdict in refl
-
-  -- no other kind has these reports
-  never : (b : Bool) (t n : ℕ) (k : Kind) → (k ≡ Address → ⊥) → by-kind k ≡ verdict b t n → ⊥
-  unfolding by-kind judged verdict reportBy
-  never b t n Address a e = a refl
-  never b t n Datagram a e = go b (leb (c .size) (op .limit)) e
-    where
-      go : (b l : Bool) → judged (cond l (Delivered (c .size)) (Dropped (c .size))) (c .value) ≡ verdict b t n → ⊥
-      go true true f = zero-one (cc)
-      go true false f = zero-one (cc)
-      go false true f = zero-one (cc)
-      go false false f = zero-one (cc)
-  never b t n Unknown a e = go b (op .role) e
-    where
-      go : (b : Bool) (role : Role) → judged (reportBy role (op .limit) Unknown (c .ctype) (c .size)) (c .value) ≡ verdict b t n → ⊥
-      go true Endpoint f = zero-one (cc)
-      go true Intermediary f = zero-one (cc)
-      go false Endpoint f = zero-one (cc)
-      go false Intermediary f = zero-one (cc)
-
-  told : (b : Bool) (t n : ℕ) → reported op c ≡ verdict b t n → (c .ctype ≡ t) × (c .size ≡ n) × IsAddress op t × (leb n 1024 && wellFormed t (c .value) ≡ b)
-  unfolding reported reportOf good by-kind
-  told b t n e = go (kindOf op (c .ctype)) refl
-    where
-      go : (k : Kind) → kindOf op (c .ctype) ≡ k → (c .ctype ≡ t) × (c .size ≡ n) × IsAddress op t × (leb n 1024 && wellFormed t (c .value) ≡ b)
-      go Datagram k = absurd (never b t n Datagram (λ d. zero-one (cc)) (ap by-kind (sym k) ∙ e))
-      go Unknown k = absurd (never b t n Unknown (λ d. zero-one (cc)) (ap by-kind (sym k) ∙ e))
-      go Address k =
-          let q = same-verdict (good (c .ctype) (c .size)) b (c .ctype) (c .size) t n (sym of-address ∙ ap by-kind (sym k) ∙ e) in
-          (q .1, q .2, subst (λ (x : ℕ). IsAddress op x) (q .1) (is-address op (c .ctype) k), (λ i. leb (sym (q .2) i) 1024 && wellFormed (sym (q .1) i) (c .value)) ∙ q .0)
-
-  tells : (b : Bool) (t n : ℕ) → (c .ctype ≡ t) × (c .size ≡ n) × IsAddress op t × (leb n 1024 && wellFormed t (c .value) ≡ b) → reported op c ≡ verdict b t n
-  unfolding reported reportOf good by-kind
-  tells b t n h =
-      let k : kindOf op (c .ctype) ≡ Address = kind-is op (c .ctype) (subst (λ (x : ℕ). IsAddress op x) (sym (h .0)) (h .2)) in
-      let g : good (c .ctype) (c .size) ≡ b = (λ i. leb (h .1 i) 1024 && wellFormed (h .0 i) (c .value)) ∙ h .3 in
-      ap by-kind k ∙ of-address ∙ (λ i. verdict (g i) (h .0 i) (h .1 i))
-
-pub malformed-exactly : MalformedExactly
-unfolding verdict
-malformed-exactly op c t n = (told op c false t n, tells op c false t n)
-
-pub address-delivered-exactly : AddressDeliveredExactly
-unfolding verdict
-address-delivered-exactly op c t n = (told op c true t n, tells op c true t n)
-
 -- ---- refusal 18
 
 other-number : (w : Refusal) → (w .0 ≡ 18 → ⊥) → Refused w ≡ Refused addressesTooShort → ⊥
@@ -165,38 +69,24 @@ module _ (r : Reader) (p : List ℕ) (b : Lent) where
       × (r .opening .addresses ≡ true)
       × (length (b .addresses) < 1024)
 
-  by-output : (role : Role) (piece room : ℕ) → outputVerdict role piece room ≡ Refused addressesTooShort → ⊥
-  unfolding outputVerdict
-  by-output Endpoint piece room e = zero-one (cc)
-  by-output Intermediary piece room e = go (leb (piece + 8) room) e
-    where
-      go : (t : Bool) → cond t Accepted (Refused outputTooShort) ≡ Refused addressesTooShort → ⊥
-      go true f = zero-one (cc)
-      go false f = other-number outputTooShort (λ z. omega arith) f
-
-  by-lengths : isMakeable r ≡ true → r .finished ≡ false → r .opening .limit ≤ length (b .gathering) → (o : Bool) → opted (r .opening) ≡ o
-      → addressesVerdict o (length (b .addresses)) (outputVerdict (r .opening .role) (length p) (length (b .output))) ≡ Refused addressesTooShort → Short
-  unfolding addressesVerdict longestAddressValue
-  by-lengths m f g false o e = absurd (by-output (r .opening .role) (length p) (length (b .output)) e)
-  by-lengths m f g true o e = go (leb 1024 (length (b .addresses))) refl e
-    where
-      go : (t : Bool) → leb 1024 (length (b .addresses)) ≡ t → cond t (outputVerdict (r .opening .role) (length p) (length (b .output))) (Refused addressesTooShort) ≡ Refused addressesTooShort → Short
-      go true h e = absurd (by-output (r .opening .role) (length p) (length (b .output)) e)
-      go false h e = let q = opted-in (r .opening) o in (m, f, g, q .0, q .1, leb-false 1024 (length (b .addresses)) h)
+  -- what is lent is refused so only for the second buffer
+  by-lent : {v : Verdict} → Lends (r .opening) (length p) (length (b .gathering)) (length (b .addresses)) (length (b .output)) v → v ≡ Refused addressesTooShort
+      → (r .opening .limit ≤ length (b .gathering)) × (opted (r .opening) ≡ true) × (length (b .addresses) < 1024)
+  unfolding longestAddressValue
+  by-lent (shortGathering h) e = absurd (other-number gatheringTooShort (λ z. omega arith) e)
+  by-lent (shortAddresses h o l) e = (h, o, l)
+  by-lent shortOutput e = absurd (other-number outputTooShort (λ z. omega arith) e)
+  by-lent enough e = zero-one (cc)
 
   by-state : says ≡ Refused addressesTooShort → Short
-  unfolding says verdictOf lentVerdict
-  by-state e = go (isMakeable r) (r .finished) (leb (r .opening .limit) (length (b .gathering))) refl refl refl e
+  unfolding says verdictOf
+  by-state e = go (isMakeable r) (r .finished) refl refl e
     where
-      lengths : Verdict
-      lengths = addressesVerdict (opted (r .opening)) (length (b .addresses)) (outputVerdict (r .opening .role) (length p) (length (b .output)))
-
-      go : (m f g : Bool) → isMakeable r ≡ m → r .finished ≡ f → leb (r .opening .limit) (length (b .gathering)) ≡ g
-          → cond m (cond f (Refused finished) (cond g lengths (Refused gatheringTooShort))) (Refused unmakeableState) ≡ Refused addressesTooShort → Short
-      go false f g m′ f′ g′ e = absurd (other-number unmakeableState (λ z. omega arith) e)
-      go true true g m′ f′ g′ e = absurd (other-number finished (λ z. omega arith) e)
-      go true false false m′ f′ g′ e = absurd (other-number gatheringTooShort (λ z. omega arith) e)
-      go true false true m′ f′ g′ e = by-lengths m′ f′ (leb-true (r .opening .limit) (length (b .gathering)) g′) (opted (r .opening)) refl e
+      go : (m f : Bool) → isMakeable r ≡ m → r .finished ≡ f
+          → cond m (cond f (Refused finished) (lentVerdict (r .opening) (length p) (length (b .gathering)) (length (b .addresses)) (length (b .output)))) (Refused unmakeableState) ≡ Refused addressesTooShort → Short
+      go false f m′ f′ e = absurd (other-number unmakeableState (λ z. omega arith) e)
+      go true true m′ f′ e = absurd (other-number finished (λ z. omega arith) e)
+      go true false m′ f′ e = let h = by-lent (lends _ _ _ _ _) e in let q = opted-in (r .opening) (h .1) in (m′, f′, h .0, q .0, q .1, h .2)
 
   refused-then : feedOf r p b .answer ≡ fedAs.Refused addressesTooShort → Short
   unfolding feedOf says

@@ -1,10 +1,6 @@
 -- What the book makes of a piece, in one step: by what stands at the front of the tail and the piece. Assumes nothing.
 use Rattle.walks.proofs.Words.{_≡_, refl, sym, ap, _∙_, subst, ℕ, suc, _+_, _-_, _≤_, _<_, arith, none, some, List, [], _∷_, _++_, append-assoc, append-nil, length, take, drop, length-append, take-append-drop, drop-append-seam, length-take-le}
-use Rattle.wire.specs.Bytes.{Bytes}
-use Rattle.opening.specs.declared.Opening.{Opening}
-use Rattle.capsule.specs.Grammar.{Extent, Stage, inType, Front, part, whole, frontBy, Capsule, capsuleAt, Parts, ahead}
-use Rattle.opening.specs.Kinds.{extentOf}
-use Rattle.capsule.specs.Book.{partsFor, firstOf, completes, Taken, append}
+use Rattle.capsule_laws.proofs.Terms.{Bytes, Opening, Extent, Stage, inType, Front, part, whole, frontBy, Capsule, capsuleAt, Parts, ahead, extentOf, partsFor, firstOf, completes, Taken, append}
 use Rattle.capsule_laws.proofs.Grammar.{Sees, front-is, sees, complete, next, parts-is, parts-cut, parts-nil, parts-append, parts-part, parts-one, part-none, tail-sees, tail-bytes}
 
 -- the capsule whose bytes are l, behind a head of j bytes

@@ -1,62 +1,38 @@
 -- From an opening refusal 1 cannot arise, whatever is lent; and gathered value bytes stand at their places. Assumes nothing.
-use Rattle.walks.proofs.Words.{_≡_, refl, _∙_, ℕ, arith, Bool, true, false, cond, List, [], _∷_, length, eqb}
-use Rattle.refusals.specs.declared.Refusal.{Refusal}
-use Rattle.refusals.specs.Numbers.{unmakeableState, finished}
-use Rattle.capsule.specs.declared.reader.Reader.{Reader}
-use Rattle.capsule.specs.declared.reader.Closed.{Closed}
-use Rattle.capsule.specs.declared.reader.Phase.{Phase}
-use Rattle.capsule.specs.declared.reader.Phase.the-variants.{InType, InLength, InValue}
+use Rattle.capsule_laws.proofs.Terms.{Refusal, unmakeableState, finished, Reader, Accepted, Refused, Reply, Call, close, refused, run, newBook, Book, bookFeed, bookCall, ofBook, opening, isMakeable, fedBy, takeOf, feedBy, feedReply, closeReply, readerCall, zero-one, NeverUnmakeable, AllBytes, NoneIs, OpenedAsNamed, RefusedCloseUnchanged, ReaderNeverUnmakeable, StandsAfter, HandedOnStands}
+use Rattle.walks.proofs.Words.{_≡_, ap, refl, _∙_, true, List, [], _∷_, arith}
 use Rattle.capsule.specs.declared.reader.CloseAnswer.the-variants as closedAs
-use Rattle.capsule.specs.declared.reader.Verdict.{Verdict}
-use Rattle.capsule.specs.declared.reader.Verdict.the-variants.{Accepted, Refused}
-use Rattle.capsule.specs.Calls.{Lent, Call, feed, close, refused, run}
-use Rattle.capsule.specs.Book.{newBook, bookVerdict}
-use Rattle.capsule.specs.State.{ofBook}
-use Rattle.capsule.specs.Reader.{opening, isMakeable, verdictOf, fedBy, takeOf, feedBy, feedOf, feedReply, endAt, closing, closeOf, closeReply, readerCall}
-use Rattle.capsule.proofs.Planning.{zero-one}
-use Rattle.capsule_laws.specs.Claims.{AllBytes, NoneIs}
-use Rattle.capsule_laws.specs.ReaderClaims.{OpenedAsNamed, RefusedCloseUnchanged, ReaderNeverUnmakeable, StandsAfter, HandedOnStands}
-use Rattle.capsule_laws.proofs.Lists.{Open, open-fresh, fresh-book, verdict-same, taken-stands, left-by, book-by, handed-well}
-use Rattle.capsule_laws.proofs.Makeable.{Fine, verdict-fine, other, stays-makeable, close-makeable, opened-makeable}
+use Rattle.capsule_laws.proofs.{Lists.Open, Lists.open-fresh, Lists.fresh-book, Lists.verdict-same, Lists.taken-stands, Lists.left-by, Lists.book-by, Lists.handed-well, Makeable.call-makeable, Makeable.opened-makeable, Graphs.Calls, Graphs.refusesPiece, Graphs.takesPiece, Graphs.refusesClose, Graphs.closes, Graphs.calls, Graphs.Books, Graphs.refusesFeed, Graphs.takesFeed, Graphs.refusesEnd, Graphs.closesBook, Graphs.books}
 
 -- ---- refusal 1
 
-module _ (r : Reader) (m : isMakeable r ≡ true) where
-  -- the verdict on a state that can be made is the one on a book with its opening and mark
-  reader-fine : (p : List ℕ) (b : Lent) → Fine (verdictOf r (length p) (length (b .gathering)) (length (b .addresses)) (length (b .output)))
-  unfolding verdictOf
-  reader-fine p b = rw m (unfold bookVerdict in verdict-fine (record { opening = r .opening; stream = []; mark = r .finished }) p b)
+other : (r : Refusal) → (r .0 ≡ 1 → ⊥) → refused r ≡ refused unmakeableState → ⊥
+other r h e = let d : r ≡ unmakeableState = cc in h (ap (λ (x : Refusal). x .0) d)
 
-  feed-fine : (p : List ℕ) (b : Lent) → readerCall r (feed p b) .1 ≡ refused unmakeableState → ⊥
-  unfolding readerCall feedOf
-  feed-fine p b = go (verdictOf r (length p) (length (b .gathering)) (length (b .addresses)) (length (b .output))) (reader-fine p b)
-    where
-      go : (v : Verdict) → Fine v → feedReply (feedBy r p b v .answer) (feedBy r p b v .buffers) ≡ refused unmakeableState → ⊥
-      go Accepted f e = zero-one (unfold feedBy takeOf fedBy feedReply in cc)
-      go (Refused why) f e = other why f (unfold feedBy feedReply in e)
+book-fine : (k : Book) (cs : List Call) → NoneIs unmakeableState (run bookCall k cs .1)
+unfolding run
+book-fine k [] = tt
+book-fine k (c ∷ cs) = (go (books k c), book-fine (bookCall k c .0) cs)
+  where
+    go : {c : Call} {x : Book × Reply} → Books k c x → x .1 ≡ refused unmakeableState → ⊥
+    go (refusesFeed why f) e = other why f e
+    go (takesFeed v) e = zero-one (unfold bookFeed in cc)
+    go (refusesEnd m) e = other finished (λ z. omega arith) e
+    go (closesBook m) e = zero-one (cc)
 
-  close-fine : readerCall r close .1 ≡ refused unmakeableState → ⊥
-  unfolding readerCall closeOf
-  close-fine = rw m (go (r .finished))
-    where
-      answers : (t : Bool) → closeReply (cond t closedAs.Clean closedAs.Truncated) ≡ refused unmakeableState → ⊥
-      answers true e = zero-one (unfold closeReply in cc)
-      answers false e = zero-one (unfold closeReply in cc)
-
-      ended : (x : Phase) → closeReply (endAt x) ≡ refused unmakeableState → ⊥
-      ended (InType part) e = answers (eqb (part .have) 0) (unfold endAt in e)
-      ended (InLength t part) e = answers false (unfold endAt in e)
-      ended (InValue t n left) e = answers false (unfold endAt in e)
-
-      go : (f : Bool) → closeReply (cond f (closing r (closedAs.Refused finished)) (closing (record { opening = r .opening; phase = r .phase; finished = true }) (endAt (r .phase))) .answer) ≡ refused unmakeableState → ⊥
-      go true e = other finished (λ z. omega arith) (unfold closeReply in e)
-      go false e = ended (r .phase) e
+pub never-unmakeable : NeverUnmakeable
+never-unmakeable op cs = book-fine (newBook op) cs
 
 all-fine : (r : Reader) (cs : List Call) → AllBytes cs → isMakeable r ≡ true → NoneIs unmakeableState (run readerCall r cs .1)
 unfolding run
 all-fine r [] h m = tt
-all-fine r (feed p b ∷ cs) h m = (feed-fine r m p b, all-fine (readerCall r (feed p b) .0) cs (h .1) (unfold readerCall in stays-makeable r p b (h .0) m))
-all-fine r (close ∷ cs) h m = (close-fine r m, all-fine (readerCall r close .0) cs (h .1) (unfold readerCall in close-makeable r m))
+all-fine r (c ∷ cs) h m = (go (calls r c), all-fine (readerCall r c .0) cs (h .1) (call-makeable r c (h .0) m))
+  where
+    go : {c : Call} {x : Reader × Reply} → Calls r c x → x .1 ≡ refused unmakeableState → ⊥
+    go (refusesPiece why f) e = other why (f m) e
+    go (takesPiece v f) e = zero-one (unfold takeOf fedBy feedReply in cc)
+    go (refusesClose why f) e = other why (f m) e
+    go closes e = zero-one (cc)
 
 pub reader-never-unmakeable : ReaderNeverUnmakeable
 reader-never-unmakeable role limit draft addresses r e cs h = all-fine r cs h (opened-makeable role limit draft addresses r e)
@@ -79,28 +55,10 @@ opened-as-named role limit draft addresses r e =
     let f = open-fresh role limit draft addresses r e in
     rw (f .1) (record { same-role = refl; same-limit = refl; same-draft = refl; same-addresses = refl; nothing-came = fresh-book (opening role limit draft addresses) })
 
--- a clean close that is not refused answers one of two
-not-refused {ℓ} : {X : Type ℓ} {why : Refusal} (p : Phase) → endAt p ≡ closedAs.Refused why → X
-unfolding endAt
-not-refused {X} {why} (InType part) e = go (eqb (part .have) 0) e
-  where
-    go : (b : Bool) → cond b closedAs.Clean closedAs.Truncated ≡ closedAs.Refused why → X
-    go true z = zero-one (cc z)
-    go false z = zero-one (cc z)
-not-refused (InLength t part) e = zero-one (cc e)
-not-refused (InValue t n left) e = zero-one (cc e)
-
 pub refused-close-unchanged : RefusedCloseUnchanged
-unfolding closeOf
-refused-close-unchanged r why = go (isMakeable r) (r .finished)
+unfolding readerCall
+refused-close-unchanged r why e = go (calls r close) (ap closeReply e)
   where
-    after : Bool → Bool → Closed
-    after m f =
-        cond m
-        (cond f (closing r (closedAs.Refused finished)) (closing (record { opening = r .opening; phase = r .phase; finished = true }) (endAt (r .phase))))
-        (closing r (closedAs.Refused unmakeableState))
-
-    go : (m f : Bool) → after m f .answer ≡ closedAs.Refused why → after m f .reader ≡ r
-    go true true e = refl
-    go true false e = not-refused (r .phase) e
-    go false f e = refl
+    go : {x : Reader × Reply} → Calls r close x → x .1 ≡ closeReply (closedAs.Refused why) → x .0 ≡ r
+    go (refusesClose w f) d = refl
+    go closes d = zero-one (unfold closeReply in cc)

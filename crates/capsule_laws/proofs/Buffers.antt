@@ -1,17 +1,7 @@
 -- What a feeding stores in the two buffers for values. Assumes nothing.
 use Rattle.walks.proofs.Words.{_≡_, refl, sym, ap, _∙_, ℕ, _+_, _-_, _<_, arith, Bool, false, cond, List, _++_, length, take, drop, length-append, length-drop, sets, take-all, drop-append-add}
-use Rattle.opening.specs.declared.Opening.{Opening}
-use Rattle.capsule.specs.declared.plan.Plan.{Plan}
-use Rattle.capsule.specs.Grammar.{inType, inLength, inValue, Front, part, whole, frontBy}
-use Rattle.opening.specs.Kinds.{extentOf, gathers, keeps}
-use Rattle.capsule.specs.Book.{partsFor}
-use Rattle.capsule.specs.State.{phaseOf, readerOf}
-use Rattle.capsule.specs.Reader.{planHead, planOf, stored, Feeding, fedBy, takeOf, feedBy, feedOf}
-use Rattle.capsule.proofs.Planning.{zero-one}
-use Rattle.capsule_laws.specs.AddressClaims.{storedFrom, storedAt, BuffersExactly}
-use Rattle.capsule_laws.proofs.Grammar.{seesType, seesLength, seesValue, seesWhole}
-use Rattle.capsule_laws.proofs.Appending.{Shows, shows, tail-shows, for-bytes}
-use Rattle.capsule_laws.proofs.Plans.{planAt, plan-is}
+use Rattle.capsule_laws.proofs.Terms.{Opening, Plan, inType, inLength, inValue, Front, part, whole, frontBy, extentOf, gathers, keeps, partsFor, phaseOf, readerOf, planHead, planOf, stored, Feeding, fedBy, takeOf, feedBy, feedOf, zero-one, storedFrom, storedAt, BuffersExactly}
+use Rattle.capsule_laws.proofs.{Grammar.seesType, Grammar.seesLength, Grammar.seesValue, Grammar.seesWhole, Appending.Shows, Appending.shows, Appending.tail-shows, Appending.for-bytes, Plans.planAt, Plans.plan-is}
 
 module _ (op : Opening) (r p : List ℕ) where
   -- the bytes from the value's first new one on

@@ -1,20 +1,7 @@
 -- What a feeding consumes, by `outcome` of Appending; how a close finds the stream; the length that a report tells. Assumes nothing.
-use mathlib.Core.Logic.{inl, inr}
-use mathlib.Core.List.{append-nil, append-assoc}
-use Rattle.walks.proofs.Words.{_≡_, refl, sym, ap, _∙_, subst, ℕ, arith, Bool, true, false, List, [], _∷_, _++_, length, take}
-use lib.Seq.{take-all}
-use Rattle.capsule.specs.Grammar.{inType, Capsule, Parts}
-use Rattle.capsule.specs.Book.{partsFor, Taken, append, endedBy, endOf, Book, newBook, bookVerdict, bookFeed, bookClose, bookCall}
-use Rattle.capsule.specs.Calls.{Call, feed, close, fed, closed, run}
-use Rattle.capsule.specs.declared.reader.Ended.{Ended}
-use Rattle.capsule.specs.declared.reader.Verdict.{Verdict}
-use Rattle.capsule.specs.declared.reader.Verdict.the-variants.{Accepted, Refused}
-use Rattle.capsule_laws.specs.Claims.{consumedBy, consumedIn}
-use Rattle.capsule.specs.Reader.{lengthOf}
-use Rattle.opening.specs.declared.Opening.{Opening}
-use Rattle.capsule.proofs.Planning.{zero-one}
-use Rattle.capsule_laws.specs.ReaderClaims.{Consumes, ConsumedExactly, EndExactly, UpTo, FedExactly, StreamConsumed, ClosesExactly, LengthTold}
-use Rattle.capsule_laws.proofs.Appending.{one, Outcome, goes, ends, outcome, parts-goes, parts-ends}
+use Rattle.walks.proofs.Words.{inl, inr, append-nil, append-assoc, _≡_, refl, sym, ap, _∙_, subst, ℕ, arith, List, [], _∷_, _++_, length, take, take-all}
+use Rattle.capsule_laws.proofs.Terms.{inType, Capsule, Parts, partsFor, Taken, append, endedBy, endOf, Book, newBook, bookVerdict, bookFeed, bookClose, bookCall, Call, Reply, fed, closed, run, Ended, Verdict, Accepted, Refused, consumedBy, consumedIn, lengthOf, Opening, zero-one, Consumes, ConsumedExactly, EndExactly, UpTo, FedExactly, StreamConsumed, ClosesExactly, LengthTold}
+use Rattle.capsule_laws.proofs.{Graphs.Books, Graphs.refusesFeed, Graphs.takesFeed, Graphs.refusesEnd, Graphs.closesBook, Graphs.books, Appending.one, Appending.Outcome, Appending.goes, Appending.ends, Appending.outcome, Appending.parts-goes, Appending.parts-ends}
 
 by-outcome : (op : Opening) (s p : List ℕ) (k : Taken) → Outcome op s p k → Consumes op s p k
 by-outcome op s p k (goes y v e) = rw e (record {
@@ -67,17 +54,13 @@ fed-exactly k p b consumed written w e payload q = go (bookVerdict k p b) q
         up-to (k .opening) (k .stream) p consumed e (append (k .opening) (k .stream) p) a x (outcome (k .opening) p (k .stream))
 
 one-on : (k : Book) (c : Call) → bookCall k c .0 .stream ≡ k .stream ++ consumedBy c (bookCall k c .1)
-unfolding bookCall consumedBy
-one-on k (feed p b) = go (bookVerdict k p b)
+one-on k c = go (books k c)
   where
-    go : (v : Verdict) → bookFeed k p v .0 .stream ≡ k .stream ++ consumedBy (feed p b) (bookFeed k p v .1)
-    go (Refused r) = unfold bookFeed consumedBy in sym (append-nil (k .stream))
-    go Accepted = unfold bookFeed consumedBy in consumed-exactly (k .opening) (k .stream) p .stream
-one-on k close = go (k .mark)
-  where
-    go : (m : Bool) → bookClose k m .0 .stream ≡ k .stream ++ []
-    go true = unfold bookClose in sym (append-nil (k .stream))
-    go false = unfold bookClose in sym (append-nil (k .stream))
+    go : {c : Call} {x : Book × Reply} → Books k c x → x .0 .stream ≡ k .stream ++ consumedBy c (x .1)
+    go (refusesFeed why f) = unfold consumedBy in sym (append-nil (k .stream))
+    go (takesFeed {p = p} v) = unfold bookFeed consumedBy in consumed-exactly (k .opening) (k .stream) p .stream
+    go (refusesEnd e) = unfold consumedBy in sym (append-nil (k .stream))
+    go (closesBook e) = unfold consumedBy in sym (append-nil (k .stream))
 
 all-on : (k : Book) (cs : List Call) → run bookCall k cs .0 .stream ≡ k .stream ++ consumedIn cs (run bookCall k cs .1)
 unfolding run consumedIn

@@ -1,21 +1,7 @@
 -- What a feeding adds to the forwarded bytes. Assumes nothing.
 use Rattle.walks.proofs.Words.{_≡_, refl, sym, ap, _∙_, subst, ℕ, _+_, _-_, _<_, arith, Bool, true, false, List, [], _∷_, _++_, append-assoc, append-nil, length, take, drop, take-length, take-append-add}
-use Rattle.wire.specs.declared.varint.Varint.the-variants.{Incomplete, Whole}
-use Rattle.wire.specs.Bytes.{Bytes, bytesOf}
-use Rattle.wire.specs.Varint.{readVarint}
-use Rattle.wire.specs.Partial.{heldBytes}
-use Rattle.wire.proofs.Reading.{reads, whole-incomplete}
-use Rattle.wire.proofs.Parts.{held-partial}
-use Rattle.opening.specs.declared.Opening.{Opening}
-use Rattle.capsule.specs.Grammar.{Extent, Stage, inType, inLength, inValue, Front, part, whole, frontBy, Capsule, capsuleAt, Parts}
-use Rattle.opening.specs.Kinds.{extentOf, forwards}
-use Rattle.capsule.specs.Book.{partsFor, onlyIf, fromCapsules, fromTail, fromParts, forwarded}
-use Rattle.capsule.specs.State.{phaseAt}
-use Rattle.capsule.specs.Reader.{planHead, heldOf, wrote}
-use Rattle.capsule_laws.specs.Claims.{ForwardedGrows}
-use Rattle.capsule_laws.proofs.Grammar.{Sees, seesType, seesLength, seesValue, seesWhole, part-none}
-use Rattle.capsule_laws.proofs.Appending.{one, Shows, shows, for-append, for-part, for-next, tail-shows, for-bytes, parts-goes, parts-ends}
-use Rattle.capsule_laws.proofs.Plans.{planAt}
+use Rattle.capsule_laws.proofs.Terms.{Incomplete, Whole, Bytes, bytesOf, readVarint, heldBytes, reads, whole-incomplete, held-partial, Opening, Extent, Stage, inType, inLength, inValue, Front, part, whole, frontBy, Capsule, capsuleAt, Parts, extentOf, forwards, partsFor, onlyIf, fromCapsules, fromTail, fromParts, forwarded, phaseAt, planHead, heldOf, wrote, ForwardedGrows}
+use Rattle.capsule_laws.proofs.{Grammar.Sees, Grammar.seesType, Grammar.seesLength, Grammar.seesValue, Grammar.seesWhole, Grammar.part-none, Appending.one, Appending.Shows, Appending.shows, Appending.for-append, Appending.for-part, Appending.for-next, Appending.tail-shows, Appending.for-bytes, Appending.parts-goes, Appending.parts-ends, Plans.planAt}
 
 -- ---- lists
 

@@ -1,25 +1,7 @@
 -- Each of the two buffers for values holds the value bytes that came. Assumes nothing.
 use Rattle.walks.proofs.Words.{_≡_, refl, sym, ap, _∙_, subst, ℕ, _+_, _-_, _≤_, arith, Bool, true, false, cond, List, [], _++_, append-nil, length, take, drop, length-append, length-drop, take-length, drop-nil, take-at, drop-append-le, length-take-le, sets, sets-eq, leb}
-use Rattle.wire.specs.declared.varint.Varint.the-variants.{Whole}
-use Rattle.wire.specs.Varint.{readVarint}
-use Rattle.wire.proofs.Reading.{split, reads}
-use Rattle.opening.specs.declared.Opening.{Opening}
-use Rattle.opening.specs.declared.Role.{Role}
-use Rattle.opening.specs.declared.Role.the-variants.{Endpoint, Intermediary}
-use Rattle.opening.specs.declared.Kind.{Kind}
-use Rattle.opening.specs.declared.Kind.the-variants.{Datagram, Address, Unknown}
-use Rattle.opening.specs.declared.Report.{Report}
-use Rattle.opening.specs.declared.Report.the-variants.{Delivered, Dropped, Skipped, Passed, AddressDelivered, Malformed}
-use Rattle.capsule.specs.declared.plan.Plan.{Plan}
-use Rattle.capsule.specs.Grammar.{Extent, Stage, inValue, part, whole}
-use Rattle.addresses.specs.Addresses.{longestAddressValue, wellFormed}
-use Rattle.opening.specs.Kinds.{kindOf, opted, extentOf, reportBy, reportOf, judged, onlyDelivered, gathersBy, gathers, keepsBy, keeps}
-use Rattle.capsule.specs.Reader.{stored, lengthOf}
-use Rattle.capsule_laws.specs.Claims.{StandsAt}
-use Rattle.capsule_laws.proofs.Grammar.{Sees, seesType, seesLength, seesValue, seesWhole, head-stays, head-fits, drop-take}
-use Rattle.capsule.proofs.Planning.{gathers-limit, keeps-limit, keeps-opted}
-use Rattle.capsule_laws.proofs.Appending.{Shows}
-use Rattle.capsule_laws.proofs.Plans.{planAt, longer, drop-past}
+use Rattle.capsule_laws.proofs.Terms.{Whole, readVarint, split, reads, Opening, Role, Endpoint, Intermediary, Kind, Datagram, Address, Unknown, Report, Delivered, Dropped, AddressDelivered, Malformed, Plan, Extent, Stage, inValue, part, whole, longestAddressValue, wellFormed, kindOf, opted, extentOf, reportBy, reportOf, judged, onlyDelivered, gathersBy, gathers, keepsBy, keeps, lengthOf, stored, StandsAt, gathers-limit, keeps-limit, keeps-opted}
+use Rattle.capsule_laws.proofs.{Grammar.Sees, Grammar.seesType, Grammar.seesLength, Grammar.seesValue, Grammar.seesWhole, Grammar.head-stays, Grammar.head-fits, Grammar.drop-take, Appending.Shows, Plans.planAt, Plans.longer, Plans.drop-past}
 
 -- ---- lists
 
@@ -120,97 +102,68 @@ module _ (ext : Extent) (stores : ℕ → ℕ → Bool) (r p g : List ℕ) where
 abbrev pub after : Bool → Plan → List ℕ → List ℕ → List ℕ
 after flag plan p g = stored flag (plan .at) (plan .consumed) (plan .place) p g
 
-module _ (op : Opening) (r p g : List ℕ) (x : Stage) (v : Shows op r (part x)) where
-  module _ (s : StandsAt (gathers op) r x g) (big : op .limit ≤ length g) where
-    room : (t n : ℕ) → gathers op t n ≡ true → extentOf op t n ≤ length g
-    room t n e = omega (arith, gathers-limit op t n e)
+-- the plan stores by `flag` what goes by `stores` into a buffer that has room for it
+pub record Buffer (op : Opening) (stores : ℕ → ℕ → Bool) (flag : Plan → Bool) (g : List ℕ) : Type 0 where
+  pub of-part : (r p : List ℕ) (t n j : ℕ) → flag (planAt op r p (part (inValue t n j))) ≡ stores t n
+  pub of-whole : (r p : List ℕ) (t n j : ℕ) → flag (planAt op r p (whole t n j)) ≡ stores t n
+  pub full : (t n : ℕ) → stores t n ≡ true → (extentOf op t n ≡ n) × (n ≤ length g)
 
-    pub goes-gathered : (y : Stage) → Shows op (r ++ p) (part y) → StandsAt (gathers op) (r ++ p) y (after (planAt op r p (part y) .store) (planAt op r p (part y)) p g)
-    unfolding planAt
-    goes-gathered y (seesType e) = tt
-    goes-gathered y (seesLength e d) = tt
-    goes-gathered y (seesValue {t = t} {j = i} {n = n} {k = k} e d h) = λ gs. goes-stored (extentOf op) (gathers op) r p g x v s room t n (i + k) (seesValue e d h) gs
+pub gathering-buffer : (op : Opening) (g : List ℕ) → op .limit ≤ length g → Buffer op (gathers op) (λ (x : Plan). x .store) g
+unfolding planAt
+gathering-buffer op g big = record { of-part = λ r p t n j. refl; of-whole = λ r p t n j. refl; full = λ t n e. omega (arith, gathers-limit op t n e) }
 
-    pub ends-gathered : (t n j : ℕ) → Shows op (r ++ p) (whole t n j) → length r ≤ j + extentOf op t n → gathers op t n ≡ true
-        → take n (after (planAt op r p (whole t n j) .store) (planAt op r p (whole t n j)) p g) ≡ drop j (r ++ take (j + extentOf op t n - length r) p)
-    unfolding planAt
-    ends-gathered t n j w l gs =
-        ap (λ (m : ℕ). take m (after (planAt op r p (whole t n j) .store) (planAt op r p (whole t n j)) p g)) (sym (gathers-limit op t n gs .0))
-        ∙ ends-stored (extentOf op) (gathers op) r p g x v s room t n j w l gs
+pub second-buffer : (op : Opening) (a : List ℕ) → (opted op ≡ true → longestAddressValue ≤ length a) → Buffer op (keeps op) (λ (x : Plan). x .keep) a
+unfolding planAt
+second-buffer op a big = record { of-part = λ r p t n j. refl; of-whole = λ r p t n j. refl; full = λ t n e. omega (arith, keeps-limit op t n e, big (keeps-opted op t n e)) }
 
-  module _ (s : StandsAt (keeps op) r x g) (big : opted op ≡ true → longestAddressValue ≤ length g) where
-    place : (t n : ℕ) → keeps op t n ≡ true → extentOf op t n ≤ length g
-    place t n e = omega (arith, keeps-limit op t n e, big (keeps-opted op t n e))
+module _ (op : Opening) (stores : ℕ → ℕ → Bool) (flag : Plan → Bool) (r p g : List ℕ) (x : Stage) (v : Shows op r (part x)) (s : StandsAt stores r x g) (b : Buffer op stores flag g) where
+  room : (t n : ℕ) → stores t n ≡ true → extentOf op t n ≤ length g
+  room t n e = omega (arith, b .full t n e)
 
-    pub goes-kept : (y : Stage) → Shows op (r ++ p) (part y) → StandsAt (keeps op) (r ++ p) y (after (planAt op r p (part y) .keep) (planAt op r p (part y)) p g)
-    unfolding planAt
-    goes-kept y (seesType e) = tt
-    goes-kept y (seesLength e d) = tt
-    goes-kept y (seesValue {t = t} {j = i} {n = n} {k = k} e d h) = λ gs. goes-stored (extentOf op) (keeps op) r p g x v s place t n (i + k) (seesValue e d h) gs
+  pub goes-in : (y : Stage) → Shows op (r ++ p) (part y) → StandsAt stores (r ++ p) y (after (flag (planAt op r p (part y))) (planAt op r p (part y)) p g)
+  unfolding planAt
+  goes-in y (seesType e) = tt
+  goes-in y (seesLength e d) = tt
+  goes-in y (seesValue {t = t} {j = i} {n = n} {k = k} e d h) = λ gs. rw (b .of-part r p t n (i + k)) (goes-stored (extentOf op) stores r p g x v s room t n (i + k) (seesValue e d h) gs)
 
-    pub ends-kept : (t n j : ℕ) → Shows op (r ++ p) (whole t n j) → length r ≤ j + extentOf op t n → keeps op t n ≡ true
-        → take n (after (planAt op r p (whole t n j) .keep) (planAt op r p (whole t n j)) p g) ≡ drop j (r ++ take (j + extentOf op t n - length r) p)
-    unfolding planAt
-    ends-kept t n j w l gs =
-        ap (λ (m : ℕ). take m (after (planAt op r p (whole t n j) .keep) (planAt op r p (whole t n j)) p g)) (sym (keeps-limit op t n gs .0))
-        ∙ ends-stored (extentOf op) (keeps op) r p g x v s place t n j w l gs
+  pub ends-in : (t n j : ℕ) → Shows op (r ++ p) (whole t n j) → length r ≤ j + extentOf op t n → stores t n ≡ true
+      → take n (after (flag (planAt op r p (whole t n j))) (planAt op r p (whole t n j)) p g) ≡ drop j (r ++ take (j + extentOf op t n - length r) p)
+  unfolding planAt
+  ends-in t n j w l gs = rw (b .of-whole r p t n j)
+      (ap (λ (m : ℕ). take m (stored (stores t n) (j - length r) (j + extentOf op t n - length r) (length r - j) p g)) (sym (b .full t n gs .0)) ∙ ends-stored (extentOf op) stores r p g x v s room t n j w l gs)
 
 -- ---- the report and the payload
 
--- what a report by type and length says of the buffers
-data Says (op : Opening) (t n : ℕ) : Report → Type 0 where
-  saysDelivered : gathers op t n ≡ true → Says op t n (Delivered n)
-  saysDropped : Says op t n (Dropped n)
-  saysSkipped : Says op t n (Skipped t n)
-  saysPassed : Says op t n (Passed t n)
-  saysAddress : keeps op t n ≡ true → Says op t n (AddressDelivered t n)
-  saysMalformed : Says op t n (Malformed t n)
-
-says : (op : Opening) (t n : ℕ) → Says op t n (reportOf op t n)
-unfolding reportOf
-says op t n = go (kindOf op t) refl (op .role)
-  where
-    within : (b : Bool) → kindOf op t ≡ Datagram → leb n (op .limit) ≡ b → Says op t n (cond b (Delivered n) (Dropped n))
-    within true k e = saysDelivered (unfold gathers gathersBy in rw (k, e))
-    within false k e = saysDropped
-
-    fits : (b : Bool) → kindOf op t ≡ Address → leb n longestAddressValue ≡ b → Says op t n (cond b (AddressDelivered t n) (Malformed t n))
-    fits true k e = saysAddress (unfold keeps keepsBy in rw (k, e))
-    fits false k e = saysMalformed
-
-    go : (k : Kind) → kindOf op t ≡ k → (r : Role) → Says op t n (reportBy r (op .limit) k t n)
-    go Datagram k r = unfold reportBy in within (leb n (op .limit)) k refl
-    go Address k r = unfold reportBy in fits (leb n longestAddressValue) k refl
-    go Unknown k Endpoint = unfold reportBy in saysSkipped
-    go Unknown k Intermediary = unfold reportBy in saysPassed
+-- by type and length: the value v at the fronts of the buffers g and a decides what is reported and delivered
+record Told (g a v : List ℕ) (r : Report) : Type 0 where
+  report : judged r (take (lengthOf r) a) ≡ judged r v
+  payload : onlyDelivered (judged r v) (take (lengthOf (judged r v)) g) (take (lengthOf (judged r v)) a) ≡ onlyDelivered (judged r v) v v
 
 module _ (op : Opening) (t n : ℕ) (g a v : List ℕ) (hg : gathers op t n ≡ true → take n g ≡ v) (ha : keeps op t n ≡ true → take n a ≡ v) where
-  judged-by : (r : Report) → Says op t n r → judged r (take (lengthOf r) a) ≡ judged r v
-  unfolding judged lengthOf
-  judged-by r (saysDelivered e) = refl
-  judged-by r saysDropped = refl
-  judged-by r saysSkipped = refl
-  judged-by r saysPassed = refl
-  judged-by r (saysAddress e) = rw (ha e)
-  judged-by r saysMalformed = refl
-
-  -- the value decides what is reported
-  pub same-report : judged (reportOf op t n) (take (lengthOf (reportOf op t n)) a) ≡ judged (reportOf op t n) v
-  same-report = judged-by (reportOf op t n) (says op t n)
-
-  payload-by : (r : Report) → Says op t n r → onlyDelivered (judged r v) (take (lengthOf (judged r v)) g) (take (lengthOf (judged r v)) a) ≡ onlyDelivered (judged r v) v v
-  unfolding judged lengthOf onlyDelivered
-  payload-by r (saysDelivered e) = hg e
-  payload-by r saysDropped = refl
-  payload-by r saysSkipped = refl
-  payload-by r saysPassed = refl
-  payload-by r (saysAddress e) = go (wellFormed t v)
+  told : Told g a v (reportOf op t n)
+  unfolding reportOf
+  told = go (kindOf op t) refl (op .role)
     where
-      go : (b : Bool) → onlyDelivered (cond b (AddressDelivered t n) (Malformed t n)) (take (lengthOf (cond b (AddressDelivered t n) (Malformed t n))) g) (take (lengthOf (cond b (AddressDelivered t n) (Malformed t n))) a)
-          ≡ onlyDelivered (cond b (AddressDelivered t n) (Malformed t n)) v v
-      go true = unfold onlyDelivered lengthOf in ha e
-      go false = unfold onlyDelivered lengthOf in refl
-  payload-by r saysMalformed = refl
+      within : (b : Bool) → (b ≡ true → take n g ≡ v) → Told g a v (cond b (Delivered n) (Dropped n))
+      within true e = unfold judged lengthOf onlyDelivered in record { report = refl; payload = e refl }
+      within false e = unfold judged lengthOf onlyDelivered in record { report = refl; payload = refl }
+
+      paid : take n a ≡ v → (b : Bool) → let r = cond b (AddressDelivered t n) (Malformed t n) in onlyDelivered r (take (lengthOf r) g) (take (lengthOf r) a) ≡ onlyDelivered r v v
+      paid e true = unfold lengthOf onlyDelivered in e
+      paid e false = unfold lengthOf onlyDelivered in refl
+
+      fits : (b : Bool) → (b ≡ true → take n a ≡ v) → Told g a v (cond b (AddressDelivered t n) (Malformed t n))
+      fits true e = unfold judged lengthOf in record { report = rw (e refl); payload = paid (e refl) (wellFormed t v) }
+      fits false e = unfold judged lengthOf onlyDelivered in record { report = refl; payload = refl }
+
+      go : (k : Kind) → kindOf op t ≡ k → (r : Role) → Told g a v (reportBy r (op .limit) k t n)
+      go Datagram k r = unfold reportBy in within (leb n (op .limit)) (λ e. hg (unfold gathers gathersBy in rw (k, e)))
+      go Address k r = unfold reportBy in fits (leb n longestAddressValue) (λ e. ha (unfold keeps keepsBy in rw (k, e)))
+      go Unknown k Endpoint = unfold reportBy judged lengthOf onlyDelivered in record { report = refl; payload = refl }
+      go Unknown k Intermediary = unfold reportBy judged lengthOf onlyDelivered in record { report = refl; payload = refl }
+
+  pub same-report : judged (reportOf op t n) (take (lengthOf (reportOf op t n)) a) ≡ judged (reportOf op t n) v
+  same-report = told .report
 
   pub same-payload : onlyDelivered (judged (reportOf op t n) v) (take (lengthOf (judged (reportOf op t n) v)) g) (take (lengthOf (judged (reportOf op t n) v)) a) ≡ onlyDelivered (judged (reportOf op t n) v) v v
-  same-payload = payload-by (reportOf op t n) (says op t n)
+  same-payload = told .payload

@@ -1,13 +1,6 @@
 -- The grammar: its graph, and what more bytes do to it. Assumes nothing.
 use Rattle.walks.proofs.Words.{_≡_, refl, sym, _∙_, ℕ, zero, suc, _+_, _≤_, _<_, arith, le-refl, not-suc-le-zero, List, [], _∷_, _++_, append-assoc, length, take, drop, length-append, length-drop, take-append-drop, take-append-le, drop-append-le, take-all, take-length, drop-length, take-take, take-nil, length-take-le, le-leb, lt-leb}
-use Rattle.wire.specs.declared.varint.Varint.{Varint}
-use Rattle.wire.specs.declared.varint.Varint.the-variants.{Incomplete, Whole}
-use Rattle.wire.specs.Bytes.{Bytes}
-use Rattle.wire.specs.Varint.{readVarint}
-use Rattle.wire.proofs.Numbers.{bytes-drop}
-use Rattle.wire.proofs.Reading.{split, reads, read-nil, incomplete-lt}
-use Rattle.capsule.specs.Grammar.{Extent, Stage, inType, inLength, inValue, Front, part, whole, frontBy, capsuleAt, Parts, ahead, cutBy, partsBy}
-use Rattle.capsule_laws.specs.Claims.{joined, ReadsAs, AllRead, SplitRight, HeldAtMostSeven}
+use Rattle.capsule_laws.proofs.Terms.{Varint, Incomplete, Whole, Bytes, readVarint, bytes-drop, split, reads, read-nil, incomplete-lt, Extent, Stage, inType, inLength, inValue, Front, part, whole, frontBy, capsuleAt, Parts, ahead, cutBy, partsBy, joined, ReadsAs, AllRead, SplitRight, HeldAtMostSeven}
 
 -- ---- the graph of `front`: what stands there, and what it rests on
 

@@ -1,4 +1,6 @@
+mod Terms
 pub mod Grammar
+pub mod Graphs
 pub mod Written
 pub mod Appending
 pub mod Plans
@@ -7,6 +9,7 @@ pub mod Forwarding
 pub mod Steps
 pub mod Lists
 pub mod Orders
+pub mod Origins
 pub mod Makeable
 pub mod States
 pub mod NotOpted
@@ -18,5 +21,4 @@ pub mod Reports
 pub mod Outputs
 pub mod Arising
 pub mod Counts
-pub mod ShortWays
 pub mod Consuming

@@ -1,39 +1,9 @@
 -- Demand 3: every list of calls. Assumes nothing.
 use Rattle.walks.proofs.Words.{_≡_, refl, sym, ap, _∙_, subst, ℕ, suc, _+_, _-_, _≤_, arith, Bool, true, false, Option, none, some, List, [], _∷_, length, take, drop, length-append, drop-append-seam, sets, length-take-le, le-leb, lt-ltb, ne-eqb}
-use Rattle.refusals.specs.declared.Refusal.{Refusal}
-use Rattle.refusals.specs.Numbers.{finished}
-use Rattle.wire.specs.declared.partial.Partial.{Partial}
-use Rattle.wire.specs.Bytes.{Bytes, bytesOf}
-use Rattle.wire.specs.Varint.{largest}
-use Rattle.wire.specs.Partial.{partialOf, heldBytes}
-use Rattle.wire.proofs.Numbers.{bytes-drop, length-bytesOf}
-use Rattle.wire.proofs.Reading.{read-bounds, no-whole-nil}
-use Rattle.wire.proofs.Parts.{both, partial-occurs}
-use Rattle.opening.specs.declared.Opening.{Opening}
-use Rattle.opening.specs.declared.Role.{Role}
-use Rattle.capsule.specs.declared.plan.Plan.{Plan}
-use Rattle.capsule.specs.declared.reader.Phase.{Phase}
-use Rattle.capsule.specs.declared.reader.Reader.{Reader}
+use Rattle.capsule_laws.proofs.Terms.{finished, Partial, Bytes, bytesOf, largest, partialOf, heldBytes, bytes-drop, length-bytesOf, read-bounds, no-whole-nil, both, partial-occurs, Opening, Role, Plan, Phase, Reader, Verdict, Accepted, Refused, Stage, inType, inLength, inValue, part, Parts, longestAddressValue, opted, extentOf, gathers, keeps, Lent, Call, feed, close, Reply, run, partsFor, onlyIf, forwarded, append, Book, newBook, bookVerdict, gained, bookFeed, endOf, bookClose, bookCall, phaseAt, phaseOf, readerOf, ofBook, opening, fresh, isOpening, openOf, isMakeable, verdictOf, wrote, fedBy, takeOf, feedBy, feedOf, endAt, closeOf, feedReply, closeReply, readerCall, isMakeablePhase, planOf, heldOf, StandsAt, StandsBy, Stands, AllBytes, Agrees, Follows, leftBy, HandedOn, LentWell, Demand3, Demand3Standing, zero-one, no-true, keeps-opted, plan-fits, held-few, Accepts, accepts}
 use Rattle.capsule.specs.declared.reader.Opened.the-variants as opened
-use Rattle.capsule.specs.declared.reader.CloseAnswer.{CloseAnswer}
-use Rattle.capsule.specs.declared.reader.CloseAnswer.the-variants as closedAs
-use Rattle.capsule.specs.declared.reader.Closed.{Closed}
-use Rattle.capsule.specs.declared.reader.Verdict.{Verdict}
-use Rattle.capsule.specs.declared.reader.Verdict.the-variants.{Accepted, Refused}
-use Rattle.capsule.specs.Grammar.{Stage, inType, inLength, inValue, part, Parts}
-use Rattle.addresses.specs.Addresses.{longestAddressValue}
-use Rattle.opening.specs.Kinds.{opted, extentOf, gathers, keeps}
-use Rattle.capsule.specs.Calls.{Lent, Call, feed, close, Reply, closed, run}
-use Rattle.capsule.specs.Book.{partsFor, onlyIf, forwarded, append, Book, newBook, bookVerdict, gained, bookFeed, endOf, bookClose, bookCall}
-use Rattle.capsule.specs.State.{phaseAt, phaseOf, readerOf, ofBook}
-use Rattle.capsule.specs.Reader.{opening, fresh, isOpening, openOf, isMakeablePhase, isMakeable, verdictOf, planOf, heldOf, wrote, fedBy, takeOf, feedBy, feedOf, endAt, closing, closeOf, feedReply, closeReply, readerCall}
-use Rattle.capsule_laws.specs.Claims.{StandsAt, StandsBy, Stands, AllBytes, Agrees, Follows, leftBy, HandedOn, LentWell, Demand3, Demand3Standing}
-use Rattle.capsule_laws.proofs.Grammar.{seesType, seesLength, seesValue, head-fits}
-use Rattle.capsule_laws.proofs.Appending.{Shows, for-nil, tail-shows, for-bytes}
-use Rattle.capsule_laws.proofs.Gathering.{take-sets}
-use Rattle.capsule.proofs.Planning.{zero-one, no-true, keeps-opted, plan-fits, held-few}
-use Rattle.capsule.proofs.Verdicts.{Accepts, accepts}
-use Rattle.capsule_laws.proofs.Steps.{Same, same, between}
+use Rattle.capsule_laws.proofs.{Grammar.seesType, Grammar.seesLength, Grammar.seesValue, Grammar.head-fits, Appending.Shows, Appending.for-nil, Appending.tail-shows, Appending.for-bytes, Gathering.take-sets, Steps.Same, Steps.same, Steps.between}
+use Rattle.capsule_laws.proofs.Graphs as graphs
 
 -- ---- what a stream makes is makeable
 
@@ -70,11 +40,7 @@ verdict-same k p b o = rw (made-book k o) (unfold ofBook readerOf in refl)
 
 pub unmarked : (k : Book) (p : List ℕ) (b : Lent) → bookVerdict k p b ≡ Accepted → k .mark ≡ false
 unfolding bookVerdict
-unmarked k p b e = go (k .mark) refl
-  where
-    go : (m : Bool) → k .mark ≡ m → k .mark ≡ false
-    go true f = zero-one (cc (rw f at e))
-    go false f = f
+unmarked k p b e = graphs.unmarked (k .mark) _ e
 
 -- ---- what is written stands at the output's front
 
@@ -149,12 +115,6 @@ pub record One (k : Book) (c : Call) : Type 0 where
   pub stays-open : Open (bookCall k c .0)
 
 module _ (k : Book) (p : List ℕ) (b : Lent) where
-  -- the reader's answer to a feeding, by its verdict
-  pub fed-by : (v : Verdict) → verdictOf (ofBook k) (length p) (length (b .gathering)) (length (b .addresses)) (length (b .output)) ≡ v
-      → _≡_ {A = Reader × Reply} (readerCall (ofBook k) (feed p b)) (feedBy (ofBook k) p b v .reader, feedReply (feedBy (ofBook k) p b v .answer) (feedBy (ofBook k) p b v .buffers))
-  unfolding readerCall feedOf
-  fed-by v e = rw e
-
   pub left-by : (v : Verdict) → verdictOf (ofBook k) (length p) (length (b .gathering)) (length (b .addresses)) (length (b .output)) ≡ v → feedOf (ofBook k) p b ≡ feedBy (ofBook k) p b v
   unfolding feedOf
   left-by v e = rw e
@@ -163,29 +123,17 @@ module _ (k : Book) (p : List ℕ) (b : Lent) where
   unfolding bookCall
   book-by v e = rw e
 
-  refused-by : (r : Refusal) → _≡_ {A = Reader × Reply} (feedBy (ofBook k) p b (Refused r) .reader, feedReply (feedBy (ofBook k) p b (Refused r) .answer) (feedBy (ofBook k) p b (Refused r) .buffers)) (ofBook (bookFeed k p (Refused r) .0), bookFeed k p (Refused r) .1)
-  unfolding feedBy feedReply bookFeed
-  refused-by r = refl
-
-  taken-by : Open k → Bytes p → bookVerdict k p b ≡ Accepted → Stands k b
-      → _≡_ {A = Reader × Reply} (feedBy (ofBook k) p b Accepted .reader, feedReply (feedBy (ofBook k) p b Accepted .answer) (feedBy (ofBook k) p b Accepted .buffers)) (ofBook (bookFeed k p Accepted .0), bookFeed k p Accepted .1)
-  unfolding feedBy
-  taken-by o h v s = taken k p b o h v s
-
   one-feed : Open k → Bytes p → (bookVerdict k p b ≡ Accepted → Stands k b) → One k (feed p b)
   one-feed o h s = go (bookVerdict k p b) refl
     where
+      by : (v : Verdict) → bookVerdict k p b ≡ v
+          → _≡_ {A = Reader × Reply} (feedBy (ofBook k) p b v .reader, feedReply (feedBy (ofBook k) p b v .answer) (feedBy (ofBook k) p b v .buffers)) (ofBook (bookFeed k p v .0), bookFeed k p v .1)
+          → Open (bookFeed k p v .0) → One k (feed p b)
+      by v e f g = record { same-answer = unfold readerCall in rw (left-by v (verdict-same k p b o ∙ e), book-by v e) f; stays-open = rw (book-by v e) g }
+
       go : (v : Verdict) → bookVerdict k p b ≡ v → One k (feed p b)
-      go (Refused r) v =
-          record {
-            same-answer = fed-by (Refused r) (verdict-same k p b o ∙ v) ∙ refused-by r ∙ ap (λ (x : Book × Reply). (ofBook (x .0), x .1)) (sym (book-by (Refused r) v));
-            stays-open = subst (λ (x : Book × Reply). Open (x .0)) (sym (book-by (Refused r) v)) (unfold bookFeed in o);
-          }
-      go Accepted v =
-          record {
-            same-answer = fed-by Accepted (verdict-same k p b o ∙ v) ∙ taken-by o h v (s v) ∙ ap (λ (x : Book × Reply). (ofBook (x .0), x .1)) (sym (book-by Accepted v));
-            stays-open = subst (λ (x : Book × Reply). Open (x .0)) (sym (book-by Accepted v)) (taken-open k p b o h v (s v));
-          }
+      go (Refused r) v = by (Refused r) v (unfold feedBy feedReply bookFeed in refl) (unfold bookFeed in o)
+      go Accepted v = by Accepted v (unfold feedBy in taken k p b o h v (s v)) (taken-open k p b o h v (s v))
 
 -- a clean close finds the tail empty exactly between capsules
 end-same : (op : Opening) (r : List ℕ) (x : Stage) → Shows op r (part x) → endAt (phaseAt op r x) ≡ endOf r
@@ -197,35 +145,15 @@ end-same op (b ∷ r) x (seesLength e d) = refl
 end-same op [] x (seesValue e d h) = no-whole-nil e
 end-same op (b ∷ r) x (seesValue e d h) = refl
 
-close-reply : (r : List ℕ) → closeReply (endOf r) ≡ closed (endOf r)
-unfolding closeReply endOf
-close-reply [] = refl
-close-reply (b ∷ r) = refl
-
-close-marked : (r : Reader) → isMakeable r ≡ true → r .finished ≡ true → closeOf r ≡ closing r (closedAs.Refused finished)
-unfolding closeOf
-close-marked r m f = rw (m, f)
-
-close-live : (r : Reader) → isMakeable r ≡ true → r .finished ≡ false → closeOf r ≡ closing (record { opening = r .opening; phase = r .phase; finished = true }) (endAt (r .phase))
-unfolding closeOf
-close-live r m f = rw (m, f)
-
 module _ (k : Book) (o : Open k) where
-  close-as : (c : Closed) → closeOf (ofBook k) ≡ c → _≡_ {A = Reader × Reply} (readerCall (ofBook k) close) (c .reader, closeReply (c .answer))
-  unfolding readerCall
-  close-as c e = rw e
-
   ended-same : endAt (phaseOf (k .opening) (partsFor (k .opening) (k .stream))) ≡ endOf (partsFor (k .opening) (k .stream) .tail)
   unfolding phaseOf
   ended-same = end-same (k .opening) (partsFor (k .opening) (k .stream) .tail) (partsFor (k .opening) (k .stream) .stage) (tail-shows (k .opening) (k .stream))
 
   pub closed-same : (m : Bool) → k .mark ≡ m → readerCall (ofBook k) close ≡ (ofBook (bookClose k m .0), bookClose k m .1)
-  unfolding bookClose ofBook readerOf closeReply
-  closed-same true e = close-as _ (close-marked (ofBook k) (made-book k o) e)
-  closed-same false e =
-      close-as _ (close-live (ofBook k) (made-book k o) e)
-      ∙ ap (λ (a : CloseAnswer). (readerOf (k .opening) (k .stream) true, closeReply a)) ended-same
-      ∙ ap (λ (a : Reply). (readerOf (k .opening) (k .stream) true, a)) (close-reply (partsFor (k .opening) (k .stream) .tail))
+  unfolding readerCall closeOf bookClose
+  closed-same true e = rw (made-book k o) (unfold ofBook readerOf closeReply in rw e)
+  closed-same false e = rw (made-book k o) (unfold ofBook readerOf in rw (e, graphs.close-reply (phaseOf (k .opening) (partsFor (k .opening) (k .stream))), ended-same))
 
   pub one-close : One k close
   unfolding bookCall

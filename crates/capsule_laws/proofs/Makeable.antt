@@ -1,176 +1,9 @@
 -- Which states opening, feeding and closing make, and what follows for every state. Assumes nothing.
-use Rattle.walks.proofs.Words.{_≡_, refl, sym, ap, _∙_, subst, ℕ, zero, suc, _+_, _-_, _≤_, _<_, arith, Bool, true, false, cond, _&&_, List, [], _∷_, _++_, length, drop, replicate, length-append, length-drop, length-replicate, take-at, drop-at, leb, ltb, ltb-true, leb-true}
-use Rattle.refusals.specs.declared.Refusal.{Refusal}
-use Rattle.refusals.specs.Numbers.{unmakeableState, finished, gatheringTooShort, addressesTooShort, outputTooShort}
-use Rattle.wire.specs.declared.varint.Varint.the-variants.{Whole}
-use Rattle.wire.specs.declared.partial.Partial.{Partial}
-use Rattle.wire.specs.Bytes.{Bytes}
-use Rattle.wire.specs.Varint.{largest, readVarint, encodeAs}
-use Rattle.wire.specs.Partial.{partialOf, heldBytes, isPartial}
-use Rattle.wire.proofs.Numbers.{bytes-append, bytesOf-bytes, length-bytesOf}
-use Rattle.wire.proofs.Encoding.{every-form-read}
-use Rattle.wire.proofs.Parts.{both, parted, held-bytes, held-read, partial-held}
-use Rattle.opening.specs.declared.Role.{Role}
-use Rattle.opening.specs.declared.Role.the-variants.{Endpoint, Intermediary}
-use Rattle.opening.specs.declared.Opening.{Opening}
-use Rattle.capsule.specs.declared.reader.Phase.{Phase}
-use Rattle.capsule.specs.declared.reader.Phase.the-variants.{InType, InLength, InValue}
+use Rattle.walks.proofs.Words.{_≡_, refl, sym, ap, _∙_, subst, ℕ, _+_, _≤_, _<_, arith, Bool, true, false, List, [], _∷_, _++_, length}
+use Rattle.capsule_laws.proofs.Terms.{finished, Bytes, both, Role, Endpoint, Intermediary, Opening, Phase, Reader, Verdict, Accepted, Refused, Stage, part, Parts, longestAddressValue, opted, keeps, Lent, lent, Call, feed, close, Reply, run, finishesIn, lentVerdict, partsFor, Taken, append, endedBy, Book, newBook, bookVerdict, bookFeed, bookClose, bookCall, phaseOf, readerOf, ofBook, opening, fresh, isOpening, openOf, isMakeable, verdictOf, fedBy, takeOf, feedBy, feedOf, readerCall, isMakeablePhase, planOf, StandsAt, StandsBy, AddressesWell, CallBytes, AllBytes, Makes, MakeableExactly, StaysMakeable, RefusedUnchanged, Progress, StateOfBook, StateOfPlainBook, zero-one, Accepts, accepts, accepted-makeable, endpoint-lent, output-lent}
 use Rattle.capsule.specs.declared.reader.FeedAnswer.the-variants as fedAs
-use Rattle.capsule.specs.declared.reader.Reader.{Reader}
-use Rattle.capsule.specs.declared.reader.CloseAnswer.the-variants as closedAs
 use Rattle.capsule.specs.declared.reader.Opened.the-variants as opened
-use Rattle.capsule.specs.declared.reader.Verdict.{Verdict}
-use Rattle.capsule.specs.declared.reader.Verdict.the-variants.{Accepted, Refused}
-use Rattle.capsule.specs.Grammar.{Stage, inType, inLength, inValue, part, Parts}
-use Rattle.addresses.specs.Addresses.{longestAddressValue}
-use Rattle.opening.specs.Kinds.{opted, extentOf, gathers, keeps}
-use Rattle.capsule.specs.Calls.{Lent, lent, Call, feed, close, Reply, refused, outputVerdict, addressesVerdict, lentVerdict, run, finishesIn}
-use Rattle.capsule.specs.Book.{partsFor, Taken, append, endedBy, Book, newBook, bookVerdict, bookFeed, bookClose, bookCall}
-use Rattle.capsule.specs.State.{phaseAt, phaseOf, readerOf, ofBook}
-use Rattle.capsule.specs.Reader.{opening, fresh, isOpening, openOf, isMakeablePhase, isMakeable, verdictOf, planOf, fedBy, takeOf, feedBy, feedOf, endAt, closing, closeOf, readerCall}
-use Rattle.capsule_laws.specs.Claims.{StandsAt, StandsBy, AddressesWell, AllBytes, NoneIs, NeverUnmakeable, Makes, MakeableExactly, StaysMakeable, RefusedUnchanged, Progress, StateOfBook, StateOfPlainBook}
-use Rattle.capsule_laws.proofs.Grammar.{seesType, seesLength, seesValue}
-use Rattle.capsule.proofs.Planning.{zero-one}
-use Rattle.capsule.proofs.Verdicts.{Accepts, accepts, endpoint-lent, output-lent, accepted-makeable}
-use Rattle.capsule_laws.proofs.Appending.{Shows, for-nil, for-part, tail-shows, append-goes}
-use Rattle.capsule_laws.proofs.Steps.{Same, same}
-use Rattle.capsule_laws.proofs.Marks.{feed-opening, close-opening}
-use Rattle.capsule_laws.proofs.Lists.{Open, made-stream, made-book, verdict-same, unmarked, fed-by, book-by, open-fresh, fresh-book, fresh-open, none-kept, one-close}
-
--- ---- a stream that makes the phase
-
-pub record Origin (op : Opening) (phase : Phase) : Type 0 where
-  pub stream : List ℕ
-  pub bytes : Bytes stream
-  pub stage : Stage
-  pub seen : Shows op stream (part stage)
-  pub is : phaseAt op stream stage ≡ phase
-
--- t as a varint of eight bytes
-module _ (t : ℕ) (h : t ≤ largest) where
-  eight : List ℕ
-  eight = encodeAs 3 t
-
-  eight-read : (r : List ℕ) → readVarint (eight ++ r) ≡ Whole t 8
-  unfolding eight largest
-  eight-read r = every-form-read 3 t (omega arith) (omega arith) r
-
-  eight-length : length eight ≡ 8
-  unfolding eight encodeAs
-  eight-length = length-bytesOf 8 _
-
-  eight-bytes : Bytes eight
-  unfolding eight encodeAs
-  eight-bytes = bytesOf-bytes 8 _
-
-  eight-drop : (r : List ℕ) → drop 8 (eight ++ r) ≡ r
-  eight-drop r = drop-at eight r 8 eight-length
-
-zeros : ℕ → List ℕ
-zeros n = replicate n 0
-
-zeros-length : (n : ℕ) → length (zeros n) ≡ n
-unfolding zeros
-zeros-length n = length-replicate n 0
-
-zeros-bytes : (n : ℕ) → Bytes (zeros n)
-unfolding zeros
-zeros-bytes zero = tt
-zeros-bytes (suc n) = (omega arith, zeros-bytes n)
-
-module _ (op : Opening) where
-  origin-length : (t : ℕ) (p : Partial) → t ≤ largest → isPartial p ≡ true → Origin op (InLength t p)
-  unfolding phaseAt
-  origin-length t p h e =
-      let r = heldBytes p in
-      let d = eight-drop t h r in
-      record {
-        stream = eight t h ++ r;
-        bytes = bytes-append (eight t h) r (eight-bytes t h) (held-bytes p);
-        stage = inLength t 8;
-        seen = seesLength (eight-read t h r) (rw d (held-read p e));
-        is = ap (λ (l : List ℕ). InLength t (partialOf l)) d ∙ ap (InLength t) (partial-held p e);
-      }
-
-  origin-value : (t n left : ℕ) → t ≤ largest → n ≤ largest → 0 < left → left ≤ extentOf op t n → Origin op (InValue t n left)
-  unfolding phaseAt
-  origin-value t n left h i pos le =
-      let m = extentOf op t n in
-      let v = zeros (m - left) in
-      let r = eight n i ++ v in
-      let d = eight-drop t h r in
-      let l : length (eight t h ++ r) ≡ 16 + (m - left) =
-      omega (arith, length-append (eight t h) r, length-append (eight n i) v, eight-length t h, eight-length n i, zeros-length (m - left)) in
-      record {
-        stream = eight t h ++ r;
-        bytes = bytes-append (eight t h) r (eight-bytes t h) (bytes-append (eight n i) v (eight-bytes n i) (zeros-bytes (m - left)));
-        stage = inValue t n 16;
-        seen = seesValue (eight-read t h r) (subst (λ (l : List ℕ). readVarint l ≡ Whole n 8) (sym d) (eight-read n i v)) (omega arith);
-        is = ap (InValue t n) (omega arith);
-      }
-
-  pub origin : (phase : Phase) → isMakeablePhase op phase ≡ true → Origin op phase
-  unfolding isMakeablePhase phaseAt
-  origin (InType p) e = record { stream = heldBytes p; bytes = held-bytes p; stage = inType; seen = seesType (held-read p e); is = ap InType (partial-held p e) }
-  origin (InLength t p) e = let q = parted (leb t largest) (isPartial p) e in origin-length t p (leb-true t largest (q .0)) (q .1)
-  origin (InValue t n left) e =
-      let m = extentOf op t n in
-      let a = parted (leb t largest) (leb n largest && (ltb 0 left && leb left m)) e in
-      let b = parted (leb n largest) (ltb 0 left && leb left m) (a .1) in
-      let c = parted (ltb 0 left) (leb left m) (b .1) in
-      origin-value t n left (leb-true t largest (a .0)) (leb-true n largest (b .0)) (ltb-true 0 left (c .0)) (leb-true left m (c .1))
-
--- a book whose state this is
-pub record Written (r : Reader) : Type 0 where
-  pub stream : List ℕ
-  pub bytes : Bytes stream
-  pub stage : Stage
-  pub seen : Shows (r .opening) stream (part stage)
-  pub accepted : isOpening (r .opening) ≡ true
-  pub is : readerOf (r .opening) stream (r .finished) ≡ r
-
-pub written : (r : Reader) → isMakeable r ≡ true → Written r
-unfolding isMakeable readerOf phaseOf
-written r e =
-    let q = parted (isOpening (r .opening)) (isMakeablePhase (r .opening) (r .phase)) e in
-    let op = r .opening in
-    let o = origin op (r .phase) (q .1) in
-    let p : phaseAt op (partsFor op (o .stream) .tail) (partsFor op (o .stream) .stage) ≡ r .phase = ap (λ (x : Parts). phaseAt op (x .tail) (x .stage)) (for-part op (o .stream) (o .stage) (o .seen)) ∙ o .is in
-    record {
-      stream = o .stream;
-      bytes = o .bytes;
-      stage = o .stage;
-      seen = o .seen;
-      accepted = q .0;
-      is = λ i. record { opening = r .opening; phase = p i; finished = r .finished };
-    }
-
--- ---- a plan is the book's whatever buffers are lent
-
--- some buffer of any size holds what was gathered
-standing : (op : Opening) (stores : ℕ → ℕ → Bool) (size : ℕ) (r : List ℕ) (x : Stage) → Shows op r (part x) → (g : List ℕ) × StandsAt stores r x g × (size ≤ length g)
-standing op stores size r x (seesType e) = (zeros size, tt, omega (arith, zeros-length size))
-standing op stores size r x (seesLength e d) = (zeros size, tt, omega (arith, zeros-length size))
-standing op stores size r x (seesValue {j = j} {k = k} e d h) =
-    let z = zeros size in (
-      drop (j + k) r ++ z,
-      λ gs. take-at (drop (j + k) r) z (length r - (j + k)) (length-drop (j + k) r),
-      omega (arith, length-append (drop (j + k) r) z, zeros-length size),
-    )
-
--- what ended is by the second buffer, and nothing that is said here by the gathering buffer
-pub planned-by : (op : Opening) (s p a : List ℕ) → Bytes s → Bytes p → (opted op ≡ true → longestAddressValue ≤ length a) → StandsAt (keeps op) (partsFor op s .tail) (partsFor op s .stage) a
-    → (g : List ℕ) × Same op s p g a (planOf op p (phaseOf op (partsFor op s))) (append op s p)
-planned-by op s p a w h o sa =
-    let g = standing op (gathers op) (op .limit) (partsFor op s .tail) (partsFor op s .stage) (tail-shows op s) in
-    (g .0, same op s p (g .0) a w h (g .2) o (g .1) sa)
-
--- the phase is by neither
-pub planned : (op : Opening) (s p : List ℕ) → Bytes s → Bytes p → (g : List ℕ) × (a : List ℕ) × Same op s p g a (planOf op p (phaseOf op (partsFor op s))) (append op s p)
-planned op s p w h =
-    let a = standing op (keeps op) longestAddressValue (partsFor op s .tail) (partsFor op s .stage) (tail-shows op s) in
-    let q = planned-by op s p (a .0) w h (λ o. a .2) (a .1) in
-    (q .0, a .0, q .1)
+use Rattle.capsule_laws.proofs.{Appending.Shows, Appending.for-nil, Appending.append-goes, Graphs.Calls, Graphs.refusesPiece, Graphs.takesPiece, Graphs.refusesClose, Graphs.closes, Graphs.calls, Origins.zeros, Origins.zeros-length, Origins.Written, Origins.written, Origins.planned-by, Origins.planned, Marks.call-opening, Lists.Open, Lists.made-stream, Lists.made-book, Lists.verdict-same, Lists.unmarked, Lists.left-by, Lists.book-by, Lists.open-fresh, Lists.fresh-book, Lists.fresh-open, Lists.none-kept, Lists.one-close}
 
 -- ---- a feeding and a clean close leave no state that cannot be made
 
@@ -191,28 +24,23 @@ take-makeable r p b h m =
     let next : planOf op p (r .phase) .next ≡ phaseOf op (partsFor op (append op (w .stream) p .stream)) = ap (λ (x : Phase). planOf op p x .next) (sym (phase-is r w)) ∙ q .phase in
     makeable-by (takeOf r p b .reader) (w .accepted) (subst (λ (x : Phase). isMakeablePhase op x ≡ true) (sym next) (made-stream op (append op (w .stream) p .stream) (q .bytes)))
 
-pub stays-makeable : StaysMakeable
-unfolding feedOf
-stays-makeable r p b h m = go (verdictOf r (length p) (length (b .gathering)) (length (b .addresses)) (length (b .output)))
+pub call-makeable : (r : Reader) (c : Call) → CallBytes c → isMakeable r ≡ true → isMakeable (readerCall r c .0) ≡ true
+call-makeable r c h m = go h (calls r c)
   where
-    go : (v : Verdict) → isMakeable (feedBy r p b v .reader) ≡ true
-    go (Refused why) = unfold feedBy in m
-    go Accepted = unfold feedBy in take-makeable r p b h m
+    go : {c : Call} {x : Reader × Reply} → CallBytes c → Calls r c x → isMakeable (x .0) ≡ true
+    go h (refusesPiece why f) = m
+    go h (takesPiece {p = p} {b = b} v f) = take-makeable r p b h m
+    go h (refusesClose why f) = m
+    go h closes = unfold isMakeable in m
 
-pub close-makeable : (r : Reader) → isMakeable r ≡ true → isMakeable (closeOf r .reader) ≡ true
-unfolding closeOf isMakeable
-close-makeable r m = go (isMakeable r) (r .finished)
-  where
-    go : (x f : Bool) → isMakeable (cond x (cond f (closing r (closedAs.Refused finished)) (closing (record { opening = r .opening; phase = r .phase; finished = true }) (endAt (r .phase)))) (closing r (closedAs.Refused unmakeableState)) .reader) ≡ true
-    go true true = m
-    go true false = unfold isMakeable in m
-    go false f = m
+pub stays-makeable : StaysMakeable
+unfolding readerCall
+stays-makeable r p b h m = call-makeable r (feed p b) h m
 
 pub calls-makeable : (r : Reader) (cs : List Call) → AllBytes cs → isMakeable r ≡ true → isMakeable (run readerCall r cs .0) ≡ true
-unfolding run readerCall
+unfolding run
 calls-makeable r [] h m = m
-calls-makeable r (feed p b ∷ cs) h m = calls-makeable (readerCall r (feed p b) .0) cs (h .1) (stays-makeable r p b (h .0) m)
-calls-makeable r (close ∷ cs) h m = calls-makeable (readerCall r close .0) cs (h .1) (close-makeable r m)
+calls-makeable r (c ∷ cs) h m = calls-makeable (readerCall r c .0) cs (h .1) (call-makeable r c (h .0) m)
 
 -- ---- the state after a list of calls, whatever the gathering buffer and the output hold
 
@@ -231,10 +59,7 @@ module _ (k : Book) (o : Open k) where
     where
       by : (v : Verdict) → bookVerdict k p b ≡ v → (feedBy (ofBook k) p b v .reader ≡ ofBook (bookFeed k p v .0)) × Open (bookFeed k p v .0)
           → (readerCall (ofBook k) (feed p b) .0 ≡ ofBook (bookCall k (feed p b) .0)) × Open (bookCall k (feed p b) .0)
-      by v e f = (
-        ap (λ (x : Reader × Reply). x .0) (fed-by k p b v (verdict-same k p b o ∙ e)) ∙ f .0 ∙ ap (λ (x : Book × Reply). ofBook (x .0)) (sym (book-by k p b v e)),
-        subst (λ (x : Book × Reply). Open (x .0)) (sym (book-by k p b v e)) (f .1),
-      )
+      by v e f = unfold readerCall in rw (left-by k p b v (verdict-same k p b o ∙ e), book-by k p b v e) f
 
       go : (v : Verdict) → bookVerdict k p b ≡ v → (readerCall (ofBook k) (feed p b) .0 ≡ ofBook (bookCall k (feed p b) .0)) × Open (bookCall k (feed p b) .0)
       go (Refused r) e = by (Refused r) e (unfold feedBy bookFeed in (refl, o))
@@ -263,9 +88,9 @@ unfolding bookCall
 plain-well k [] e = tt
 plain-well k (feed p b ∷ cs) e = (
   λ v. none-kept (k .opening) (partsFor (k .opening) (k .stream) .tail) (partsFor (k .opening) (k .stream) .stage) (b .addresses) e,
-  plain-well (bookCall k (feed p b) .0) cs (ap opted (feed-opening k p (bookVerdict k p b)) ∙ e),
+  plain-well (bookCall k (feed p b) .0) cs (ap opted (call-opening k (feed p b)) ∙ e),
 )
-plain-well k (close ∷ cs) e = plain-well (bookCall k close .0) cs (ap opted (close-opening k (k .mark)) ∙ e)
+plain-well k (close ∷ cs) e = plain-well (bookCall k close .0) cs (ap opted (call-opening k close) ∙ e)
 
 pub state-of-plain-book : StateOfPlainBook
 state-of-plain-book role limit draft addresses r e f cs h =
@@ -364,64 +189,6 @@ makeable r m =
 
 pub makeable-exactly : MakeableExactly
 makeable-exactly r = (made r, makeable r)
-
--- ---- refusal 1 does not arise
-
-abbrev pub Fine : Verdict → Type 0
-Fine Accepted = Unit {0}
-Fine (Refused r) = r .0 ≡ 1 → ⊥
-
-output-fine : (r : Role) (piece room : ℕ) → Fine (outputVerdict r piece room)
-unfolding outputVerdict
-output-fine Endpoint piece room = tt
-output-fine Intermediary piece room = go (leb (piece + 8) room)
-  where
-    go : (t : Bool) → Fine (cond t Accepted (Refused outputTooShort))
-    go true = tt
-    go false = λ e. omega arith
-
-addresses-fine : (o : Bool) (a : ℕ) (v : Verdict) → Fine v → Fine (addressesVerdict o a v)
-unfolding addressesVerdict
-addresses-fine false a v f = f
-addresses-fine true a v f = go (leb longestAddressValue a)
-  where
-    go : (t : Bool) → Fine (cond t v (Refused addressesTooShort))
-    go true = f
-    go false = λ e. omega arith
-
-pub verdict-fine : (k : Book) (p : List ℕ) (b : Lent) → Fine (bookVerdict k p b)
-unfolding bookVerdict lentVerdict
-verdict-fine k p b = go (k .mark) (leb (k .opening .limit) (length (b .gathering)))
-  where
-    lengths : Verdict
-    lengths = addressesVerdict (opted (k .opening)) (length (b .addresses)) (outputVerdict (k .opening .role) (length p) (length (b .output)))
-
-    go : (m t : Bool) → Fine (cond m (Refused finished) (cond t lengths (Refused gatheringTooShort)))
-    go true t = λ e. omega arith
-    go false true = addresses-fine (opted (k .opening)) (length (b .addresses)) _ (output-fine (k .opening .role) (length p) (length (b .output)))
-    go false false = λ e. omega arith
-
-pub other : (r : Refusal) → (r .0 ≡ 1 → ⊥) → refused r ≡ refused unmakeableState → ⊥
-other r h e = let d : r ≡ unmakeableState = cc in h (ap (λ (x : Refusal). x .0) d)
-
-feed-fine : (k : Book) (p : List ℕ) (v : Verdict) → Fine v → bookFeed k p v .1 ≡ refused unmakeableState → ⊥
-unfolding bookFeed
-feed-fine k p Accepted f e = zero-one (cc)
-feed-fine k p (Refused r) f e = other r f e
-
-close-fine : (k : Book) (m : Bool) → bookClose k m .1 ≡ refused unmakeableState → ⊥
-unfolding bookClose
-close-fine k true e = other finished (λ z. omega arith) e
-close-fine k false e = zero-one (cc)
-
-all-fine : (k : Book) (cs : List Call) → NoneIs unmakeableState (run bookCall k cs .1)
-unfolding run bookCall
-all-fine k [] = tt
-all-fine k (feed p b ∷ cs) = (feed-fine k p (bookVerdict k p b) (verdict-fine k p b), all-fine (bookCall k (feed p b) .0) cs)
-all-fine k (close ∷ cs) = (close-fine k (k .mark), all-fine (bookCall k close .0) cs)
-
-pub never-unmakeable : NeverUnmakeable
-never-unmakeable op cs = all-fine (newBook op) cs
 
 -- ---- of every state
 

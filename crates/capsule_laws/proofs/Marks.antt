@@ -1,49 +1,18 @@
 -- What sets the finished mark, and that nothing comes after it. Assumes nothing.
-use Rattle.walks.proofs.Words.{_≡_, refl, sym, ap, _∙_, subst, ℕ, Bool, true, false, cond, _||_, List, [], _∷_, _++_, map, leb}
-use Rattle.refusals.specs.Numbers.{finished}
-use Rattle.opening.specs.declared.Opening.{Opening}
-use Rattle.capsule.specs.declared.reader.Verdict.{Verdict}
-use Rattle.capsule.specs.declared.reader.Verdict.the-variants.{Accepted, Refused}
-use Rattle.opening.specs.declared.Role.{Role}
-use Rattle.opening.specs.declared.Kind.{Kind}
-use Rattle.opening.specs.declared.Kind.the-variants.{Datagram, Address, Unknown}
-use Rattle.opening.specs.declared.Report.{Report}
-use Rattle.opening.specs.declared.Report.the-variants.{AddressDelivered, Malformed}
-use Rattle.capsule.specs.declared.reader.Ended.{Ended}
-use Rattle.capsule.specs.declared.reader.Ended.the-variants as ended
-use Rattle.capsule.specs.declared.reader.Ended.the-variants.{Nothing}
-use Rattle.capsule.specs.Grammar.{Capsule}
-use Rattle.addresses.specs.Addresses.{longestAddressValue}
-use Rattle.opening.specs.Kinds.{kindOf, extentBy, extentOf, reportBy, reportOf, judged, finishes}
-use Rattle.capsule.specs.Calls.{Call, feed, close, Reply, refused, fed, closed, run, finishesIn}
-use Rattle.capsule.specs.Book.{partsFor, reported, Book, newBook, bookVerdict, bookFeed, bookClose, bookCall}
-use Rattle.capsule_laws.specs.Claims.{reportsIn, reports, Short, AllShort, marksIn, anyMarks, AllFinished, NothingAfter, MarkedExactly, NoneFinish, GrammarUnlessMalformed, UnmarkedGrammar}
-use Rattle.capsule.proofs.Planning.{no-true}
-use Rattle.capsule_laws.proofs.Orders.{whole-list}
-use Rattle.capsule_laws.proofs.Plain.{read-plain}
-
-or-false : (m : Bool) → m || false ≡ m
-or-false true = refl
-or-false false = refl
-
-or-assoc : (a b c : Bool) → (a || b) || c ≡ a || (b || c)
-or-assoc true b c = refl
-or-assoc false b c = refl
-
-feed-mark : (k : Book) (p : List ℕ) (v : Verdict) → bookFeed k p v .0 .mark ≡ k .mark || marksIn (bookFeed k p v .1)
-unfolding bookFeed marksIn
-feed-mark k p (Refused r) = sym (or-false (k .mark))
-feed-mark k p Accepted = refl
-
-close-mark : (k : Book) (m : Bool) → k .mark ≡ m → bookClose k m .0 .mark ≡ k .mark || marksIn (bookClose k m .1)
-unfolding bookClose marksIn
-close-mark k true e = sym (or-false (k .mark))
-close-mark k false e = rw e
+use Rattle.walks.proofs.Words.{_≡_, refl, sym, ap, _∙_, subst, ℕ, Bool, true, false, cond, _||_, List, [], _∷_, _++_, map, leb, or-false, or-true}
+use Rattle.capsule_laws.proofs.Terms.{finished, Opening, Role, Kind, Datagram, Address, Unknown, Report, AddressDelivered, Malformed, Ended, Nothing, Capsule, longestAddressValue, kindOf, extentBy, extentOf, reportBy, reportOf, judged, finishes, Call, feed, close, Reply, refused, fed, closed, run, finishesIn, partsFor, reported, Book, newBook, bookVerdict, bookFeed, bookClose, bookCall, reportsIn, reports, Short, AllShort, marksIn, anyMarks, AllFinished, NothingAfter, MarkedExactly, NoneFinish, GrammarUnlessMalformed, UnmarkedGrammar, no-true}
+use Rattle.planning.specs.declared.Ended.the-variants as ended
+use mathlib.Core.Bool.{or-assoc}
+use Rattle.capsule_laws.proofs.{Graphs.Books, Graphs.refusesFeed, Graphs.takesFeed, Graphs.refusesEnd, Graphs.closesBook, Graphs.books, Orders.whole-list, Plain.read-plain}
 
 pub call-mark : (k : Book) (c : Call) → bookCall k c .0 .mark ≡ k .mark || marksIn (bookCall k c .1)
-unfolding bookCall
-call-mark k (feed p b) = feed-mark k p (bookVerdict k p b)
-call-mark k close = close-mark k (k .mark) refl
+call-mark k c = go (books k c)
+  where
+    go : {c : Call} {x : Book × Reply} → Books k c x → x .0 .mark ≡ k .mark || marksIn (x .1)
+    go (refusesFeed why f) = unfold marksIn in sym (or-false (k .mark))
+    go (takesFeed v) = unfold bookFeed marksIn in refl
+    go (refusesEnd e) = unfold marksIn in sym (or-false (k .mark))
+    go (closesBook e) = unfold marksIn in rw e
 
 marks : (k : Book) (cs : List Call) → run bookCall k cs .0 .mark ≡ k .mark || anyMarks (run bookCall k cs .1)
 unfolding run anyMarks
@@ -64,14 +33,10 @@ marked-all k (c ∷ cs) e =
     let x = marked-call k c e in
     (ap (λ (y : Book × Reply). y .1) x, subst (λ (y : Book × Reply). AllFinished (run bookCall (y .0) cs .1)) (sym x) (marked-all k cs e))
 
-or-true : (a b : Bool) → b ≡ true → a || b ≡ true
-or-true true b e = refl
-or-true false b e = e
-
 after : (k : Book) (cs : List Call) → NothingAfter (run bookCall k cs .1)
 unfolding run
 after k [] = tt
-after k (c ∷ cs) = (λ e. marked-all (bookCall k c .0) cs (call-mark k c ∙ or-true (k .mark) (marksIn (bookCall k c .1)) e), after (bookCall k c .0) cs)
+after k (c ∷ cs) = (λ e. marked-all (bookCall k c .0) cs (call-mark k c ∙ rw e (or-true (k .mark))), after (bookCall k c .0) cs)
 
 pub marked-exactly : MarkedExactly
 unfolding newBook
@@ -124,12 +89,11 @@ unmarked-grammar op cs e = grammar-unless-malformed op cs (none-finish (run book
 -- ---- the opening
 
 -- the opening stays what it was
-pub feed-opening : (k : Book) (p : List ℕ) (v : Verdict) → bookFeed k p v .0 .opening ≡ k .opening
-unfolding bookFeed
-feed-opening k p (Refused r) = refl
-feed-opening k p Accepted = refl
-
-pub close-opening : (k : Book) (m : Bool) → bookClose k m .0 .opening ≡ k .opening
-unfolding bookClose
-close-opening k true = refl
-close-opening k false = refl
+pub call-opening : (k : Book) (c : Call) → bookCall k c .0 .opening ≡ k .opening
+call-opening k c = go (books k c)
+  where
+    go : {c : Call} {x : Book × Reply} → Books k c x → x .0 .opening ≡ k .opening
+    go (refusesFeed why f) = refl
+    go (takesFeed v) = unfold bookFeed in refl
+    go (refusesEnd e) = refl
+    go (closesBook e) = refl

@@ -1,18 +1,7 @@
 -- The output of an accepted feeding: what is not written stays. Assumes nothing.
 use Rattle.walks.proofs.Words.{_≡_, refl, sym, ap, _∙_, subst, ℕ, _+_, _≤_, arith, Bool, true, false, List, [], length, drop, drop-append-seam, sets, sets-eq, length-sets}
-use Rattle.opening.specs.declared.Role.the-variants.{Endpoint}
-use Rattle.capsule.specs.declared.plan.Plan.{Plan}
-use Rattle.capsule.specs.declared.reader.Ended.{Ended}
+use Rattle.capsule_laws.proofs.Terms.{Endpoint, Plan, Ended, Reader, Verdict, Accepted, Refused, Lent, onlyIf, verdictOf, wrote, Feeding, fedBy, takeOf, feedOf, planOf, heldOf, zero-one, plan-fits, held-few, Accepts, accepts, feed-refused, feed-taken, OutputKept, OutputExactly}
 use Rattle.capsule.specs.declared.reader.FeedAnswer.the-variants as fedAs
-use Rattle.capsule.specs.declared.reader.Reader.{Reader}
-use Rattle.capsule.specs.declared.reader.Verdict.{Verdict}
-use Rattle.capsule.specs.declared.reader.Verdict.the-variants.{Accepted, Refused}
-use Rattle.capsule.specs.Calls.{Lent}
-use Rattle.capsule.specs.Book.{onlyIf}
-use Rattle.capsule.specs.Reader.{verdictOf, planOf, heldOf, wrote, Feeding, fedBy, takeOf, feedOf}
-use Rattle.capsule.proofs.Planning.{zero-one, plan-fits, held-few}
-use Rattle.capsule.proofs.Verdicts.{Accepts, accepts, feed-refused, feed-taken}
-use Rattle.capsule_laws.specs.ReaderClaims.{OutputKept, OutputExactly}
 use Rattle.capsule_laws.proofs.Lists.{wrote-fits}
 
 drop-sets : (o w : List ℕ) → length w ≤ length o → drop (length w) (sets o 0 w) ≡ drop (length w) o

@@ -1,13 +1,7 @@
 -- What the book reads for an opening, against document 01's grammar. Assumes nothing.
 use Rattle.walks.proofs.Words.{_≡_, sym, ap, _∙_, subst, ℕ, _+_, arith, List, [], _∷_, _++_, append-nil, length, take, drop, drop-length}
-use Rattle.opening.specs.declared.Opening.{Opening}
-use Rattle.capsule.specs.Grammar.{plain, Stage, inType, inValue, part, whole, Capsule, capsuleAt, Parts, ahead, partsBy, parts}
-use Rattle.opening.specs.Kinds.{extentOf}
-use Rattle.capsule.specs.Book.{partsFor}
-use Rattle.capsule.proofs.Planning.{zero-one, extent-most}
-use Rattle.capsule_laws.specs.Claims.{Short, ShortStage, AllShort, ByTheGrammar, StopsAtTooLong}
-use Rattle.capsule_laws.proofs.Grammar.{Sees, seesType, seesLength, seesValue, seesWhole, Cut, end, next, parts-is, parts-cut, tail-sees, parts-one}
-use Rattle.capsule_laws.proofs.Appending.{one}
+use Rattle.capsule_laws.proofs.Terms.{Opening, plain, Stage, inType, inValue, part, whole, Capsule, capsuleAt, Parts, ahead, partsBy, parts, extentOf, partsFor, zero-one, extent-most, Short, ShortStage, AllShort, ByTheGrammar, StopsAtTooLong}
+use Rattle.capsule_laws.proofs.{Grammar.Sees, Grammar.seesType, Grammar.seesLength, Grammar.seesValue, Grammar.seesWhole, Grammar.Cut, Grammar.end, Grammar.next, Grammar.parts-is, Grammar.parts-cut, Grammar.tail-sees, Grammar.parts-one, Appending.one}
 
 -- a capsule of the grammar that is not too long is the book's
 same-whole : (op : Opening) (s : List ℕ) (t n j : ℕ) → Short op t n → Sees plain s (whole t n j) → Sees (extentOf op) s (whole t n j)

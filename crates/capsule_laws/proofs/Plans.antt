@@ -1,25 +1,8 @@
 -- A plan, in one step: by what stands at the front of the tail and the piece. Assumes nothing.
 use Rattle.walks.proofs.Words.{_≡_, refl, sym, ap, _∙_, subst, ℕ, _+_, _-_, _≤_, _<_, arith, false, List, [], _++_, length, take, drop, length-append, length-drop, take-append-drop, take-append-le, drop-append-le, drop-append-add}
-use Rattle.wire.specs.declared.varint.Varint.{Varint}
-use Rattle.wire.specs.declared.varint.Varint.the-variants.{Incomplete, Whole}
-use Rattle.wire.specs.declared.partial.Taken.the-variants.{More, Ends}
-use Rattle.wire.specs.Bytes.{Bytes}
-use Rattle.wire.specs.Varint.{readVarint}
-use Rattle.wire.specs.Partial.{partialOf, takenOf, takeVarint}
-use Rattle.wire.proofs.Numbers.{bytes-drop}
-use Rattle.wire.proofs.Reading.{split, reads, read-nil, whole-incomplete}
-use Rattle.wire.proofs.Parts.{goes-on, empty-is}
-use Rattle.opening.specs.declared.Opening.{Opening}
-use Rattle.capsule.specs.declared.plan.Plan.{Plan}
-use Rattle.capsule.specs.declared.reader.Phase.the-variants.{InType, InLength, InValue}
-use Rattle.capsule.specs.declared.reader.Ended.the-variants.{Nothing, Capsule}
-use Rattle.capsule.specs.Grammar.{Stage, inType, inLength, inValue, Front, part, whole, frontBy}
-use Rattle.opening.specs.Kinds.{extentOf, reportOf, forwards, gathers, keeps}
-use Rattle.capsule.specs.State.{phaseAt}
-use Rattle.capsule.specs.Reader.{noBytes, planValue, planHead, planLength, planType, planOf}
-use Rattle.capsule_laws.proofs.Appending.{Shows}
-use Rattle.capsule_laws.proofs.Grammar.{seesType, seesLength, seesValue, seesWhole, front-is, head-stays, head-fits}
-use Rattle.capsule.proofs.Planning.{value-ends, value-goes, length-more, length-ends, type-more, type-ends}
+use Rattle.capsule_laws.proofs.Terms.{Varint, Incomplete, Whole, More, Ends, Bytes, readVarint, partialOf, takenOf, takeVarint, bytes-drop, split, reads, read-nil, whole-incomplete, goes-on, empty-is, Opening, Plan, InType, InLength, InValue, Nothing, Stage, inType, inLength, inValue, Front, part, whole, frontBy, extentOf, reportOf, forwards, gathers, keeps, phaseAt, noBytes, planValue, planHead, planLength, planType, planOf, value-ends, value-goes, length-more, length-ends, type-more, type-ends}
+use Rattle.planning.specs.declared.Ended.the-variants.{Capsule}
+use Rattle.capsule_laws.proofs.{Appending.Shows, Grammar.seesType, Grammar.seesLength, Grammar.seesValue, Grammar.seesWhole, Grammar.front-is, Grammar.head-stays, Grammar.head-fits}
 
 -- what is planned where `r` is the tail, `p` the piece, and the front of both is known
 unfoldable pub planAt : Opening → List ℕ → List ℕ → Front → Plan

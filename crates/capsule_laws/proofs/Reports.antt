@@ -1,23 +1,8 @@
 -- What an ended capsule reports and what is forwarded, for every role, limit, draft setting and opting in. Assumes nothing.
-use Rattle.walks.proofs.Words.{_≡_, refl, sym, ap, _∙_, _↔_, subst, ℕ, _≤_, _<_, Bool, true, false, cond, _&&_, _||_, List, [], _∷_, _++_, leb, eqb, leb-true, leb-false, le-leb, lt-leb}
-use Rattle.addresses.specs.Addresses.{isAddressType, longestAddressValue, wellFormed}
-use Rattle.opening.specs.declared.Role.{Role}
-use Rattle.opening.specs.declared.Role.the-variants.{Endpoint, Intermediary}
-use Rattle.opening.specs.declared.Kind.{Kind}
-use Rattle.opening.specs.declared.Kind.the-variants.{Datagram, Address, Unknown}
-use Rattle.opening.specs.declared.Opening.{Opening}
-use Rattle.opening.specs.declared.Report.{Report}
-use Rattle.opening.specs.declared.Report.the-variants.{Delivered, Dropped, Skipped, Passed, AddressDelivered, Malformed}
-use Rattle.capsule.specs.declared.reader.Ended.{Ended}
-use Rattle.capsule.specs.declared.reader.Ended.the-variants as ended
-use Rattle.capsule.specs.Grammar.{Stage, inType, inLength, inValue, Capsule}
-use Rattle.opening.specs.Kinds.{opted, kindOf, reportBy, reportOf, judged, forwardsBy, forwards, finishes}
-use Rattle.capsule.specs.Calls.{finishesIn}
-use Rattle.capsule.specs.Book.{partsFor, onlyIf, fromCapsules, fromTail, fromParts, forwarded, reported}
-use Rattle.capsule.proofs.Planning.{zero-one, no-true}
-use Rattle.capsule_laws.specs.AddressClaims.{IsAddress, IsDatagram}
-use Rattle.capsule_laws.specs.ReaderClaims.{DatagramExactly, DeliveredExactly, DroppedExactly, PassedExactly, SkippedExactly, FinishesExactly, ifPassed, passedBytes, TypeComplete, ForwardedExactly}
-use Rattle.capsule_laws.proofs.Addresses.{address-exactly, datagram-test, by-tests}
+use Rattle.walks.proofs.Words.{_≡_, arith, refl, sym, ap, _∙_, _↔_, subst, ℕ, _≤_, _<_, Bool, true, false, _&&_, _||_, List, [], _∷_, _++_, leb, eqb}
+use Rattle.capsule_laws.proofs.Terms.{isAddressType, longestAddressValue, wellFormed, Role, Endpoint, Intermediary, Kind, Datagram, Address, Unknown, Opening, Report, Delivered, Dropped, Skipped, Passed, AddressDelivered, Malformed, Ended, Stage, inType, inLength, inValue, Capsule, opted, kindOf, forwardsBy, forwards, finishes, finishesIn, partsFor, onlyIf, fromCapsules, fromTail, fromParts, forwarded, reported, zero-one, no-true, IsAddress, IsDatagram, MalformedExactly, AddressDeliveredExactly, DatagramExactly, DeliveredExactly, DroppedExactly, PassedExactly, SkippedExactly, FinishesExactly, ifPassed, passedBytes, TypeComplete, ForwardedExactly}
+use Rattle.planning.specs.declared.Ended.the-variants as ended
+use Rattle.capsule_laws.proofs.{Graphs.Reports, Graphs.delivered, Graphs.dropped, Graphs.skipped, Graphs.passed, Graphs.address, Graphs.malformed, Graphs.report-is, Graphs.reports-of, Addresses.address-exactly, Addresses.datagram-test, Addresses.by-tests}
 
 -- ---- the kind
 
@@ -51,93 +36,77 @@ passed-is op t r d = unknown-is op t d (λ a. zero-one (let z = sym r ∙ a .0 i
 -- ---- the table
 
 module _ (op : Opening) (c : Capsule) where
-  -- what a report says of the capsule; the two of address capsules are in proofs/Addresses.antt
+  abbrev Told : Report → Type 0
+  Told r = Reports op (c .ctype) (c .size) (c .value) r
+
+  -- what a report says of the capsule
   abbrev Says : Report → Type 0
   Says (Delivered n) = IsDatagram op (c .ctype) × (c .size ≡ n) × (n ≤ op .limit)
   Says (Dropped n) = IsDatagram op (c .ctype) × (c .size ≡ n) × (op .limit < n)
   Says (Skipped t n) = (c .ctype ≡ t) × (c .size ≡ n) × (op .role ≡ Endpoint) × (IsDatagram op t → ⊥) × (IsAddress op t → ⊥)
   Says (Passed t n) = (c .ctype ≡ t) × (c .size ≡ n) × (op .role ≡ Intermediary) × (IsDatagram op t → ⊥)
-  Says (AddressDelivered t n) = Unit {0}
-  Says (Malformed t n) = Unit {0}
+  Says (AddressDelivered t n) = (c .ctype ≡ t) × (c .size ≡ n) × IsAddress op t × (leb n 1024 && wellFormed t (c .value) ≡ true)
+  Says (Malformed t n) = (c .ctype ≡ t) × (c .size ≡ n) × IsAddress op t × (leb n 1024 && wellFormed t (c .value) ≡ false)
 
-  says : Says (reported op c)
-  unfolding reported reportOf
-  says = go (kindOf op (c .ctype)) refl (op .role) refl
-    where
-      within : (b : Bool) → leb (c .size) (op .limit) ≡ b → IsDatagram op (c .ctype) → Says (judged (cond b (Delivered (c .size)) (Dropped (c .size))) (c .value))
-      within true e d = unfold judged in (d, refl, leb-true (c .size) (op .limit) e)
-      within false e d = unfold judged in (d, refl, leb-false (c .size) (op .limit) e)
+  says : {r : Report} → Told r → Says r
+  unfolding longestAddressValue
+  says (delivered k h) = (datagram-is op (c .ctype) k, refl, h)
+  says (dropped k h) = (datagram-is op (c .ctype) k, refl, h)
+  says (skipped k e) = (refl, refl, e, neither op (c .ctype) k .0, neither op (c .ctype) k .1)
+  says (passed k e) = (refl, refl, e, neither op (c .ctype) k .0)
+  says (address k e) = (refl, refl, address-exactly op (c .ctype) .0 k, e)
+  says (malformed k e) = (refl, refl, address-exactly op (c .ctype) .0 k, e)
 
-      good : (g : Bool) → Says (cond g (AddressDelivered (c .ctype) (c .size)) (Malformed (c .ctype) (c .size)))
-      good true = tt
-      good false = tt
+  told : (r : Report) → Says r → Told r
+  unfolding longestAddressValue
+  told (Delivered n) (d, e, h) = rw (← e) (delivered (datagram-exactly op (c .ctype) .1 d) (omega arith))
+  told (Dropped n) (d, e, h) = rw (← e) (dropped (datagram-exactly op (c .ctype) .1 d) (omega arith))
+  told (Skipped t n) (f, e, r, d, a) = rw (← f, ← e) (skipped (ap (kindOf op) f ∙ unknown-is op t d a) r)
+  told (Passed t n) (f, e, r, d) = rw (← f, ← e) (passed (ap (kindOf op) f ∙ passed-is op t r d) r)
+  told (AddressDelivered t n) (f, e, a, g) = rw (← f, ← e) (address (ap (kindOf op) f ∙ address-exactly op t .1 a) (rw (f, e) g))
+  told (Malformed t n) (f, e, a, g) = rw (← f, ← e) (malformed (ap (kindOf op) f ∙ address-exactly op t .1 a) (rw (f, e) g))
 
-      short : (b : Bool) → Says (judged (cond b (AddressDelivered (c .ctype) (c .size)) (Malformed (c .ctype) (c .size))) (c .value))
-      short true = unfold judged in good (wellFormed (c .ctype) (c .value))
-      short false = unfold judged in tt
-
-      go : (k : Kind) → kindOf op (c .ctype) ≡ k → (r : Role) → op .role ≡ r → Says (judged (reportBy r (op .limit) k (c .ctype) (c .size)) (c .value))
-      go Datagram k r e = unfold reportBy in within (leb (c .size) (op .limit)) refl (datagram-is op (c .ctype) k)
-      go Address k r e = unfold reportBy in short (leb (c .size) longestAddressValue)
-      go Unknown k Endpoint e = unfold reportBy judged in (refl, refl, e, neither op (c .ctype) k .0, neither op (c .ctype) k .1)
-      go Unknown k Intermediary e = unfold reportBy judged in (refl, refl, e, neither op (c .ctype) k .0)
-
-  said : (r : Report) → reported op c ≡ r → Says r
-  said r e = subst Says e says
-
-  by-kind : (k : Kind) (role : Role) → kindOf op (c .ctype) ≡ k → op .role ≡ role → reported op c ≡ judged (reportBy role (op .limit) k (c .ctype) (c .size)) (c .value)
-  unfolding reported reportOf
-  by-kind k role e f = rw (e, f)
+  exactly : (r : Report) → (reported op c ≡ r) ↔ Says r
+  unfolding reported
+  exactly r = (λ e. says (subst Told e (reports-of op (c .ctype) (c .size) (c .value))), λ h. report-is (told r h))
 
 pub delivered-exactly : DeliveredExactly
-delivered-exactly op c n = (said op c (Delivered n), back)
-  where
-    back : Says op c (Delivered n) → reported op c ≡ Delivered n
-    back h = by-kind op c Datagram (op .role) (datagram-exactly op (c .ctype) .1 (h .0)) refl ∙ (unfold reportBy judged in rw (h .1, le-leb n (op .limit) (h .2)))
+delivered-exactly op c n = exactly op c (Delivered n)
 
 pub dropped-exactly : DroppedExactly
-dropped-exactly op c n = (said op c (Dropped n), back)
-  where
-    back : Says op c (Dropped n) → reported op c ≡ Dropped n
-    back h = by-kind op c Datagram (op .role) (datagram-exactly op (c .ctype) .1 (h .0)) refl ∙ (unfold reportBy judged in rw (h .1, lt-leb n (op .limit) (h .2)))
+dropped-exactly op c n = exactly op c (Dropped n)
 
 pub passed-exactly : PassedExactly
-passed-exactly op c t n = (said op c (Passed t n), back)
-  where
-    back : Says op c (Passed t n) → reported op c ≡ Passed t n
-    back h = by-kind op c Unknown Intermediary (ap (kindOf op) (h .0) ∙ passed-is op t (h .2) (h .3)) (h .2) ∙ (unfold reportBy judged in rw (h .0, h .1))
+passed-exactly op c t n = exactly op c (Passed t n)
 
 pub skipped-exactly : SkippedExactly
-skipped-exactly op c t n = (said op c (Skipped t n), back)
-  where
-    back : Says op c (Skipped t n) → reported op c ≡ Skipped t n
-    back h = by-kind op c Unknown Endpoint (ap (kindOf op) (h .0) ∙ unknown-is op t (h .3) (h .4)) (h .2) ∙ (unfold reportBy judged in rw (h .0, h .1))
+skipped-exactly op c t n = exactly op c (Skipped t n)
+
+pub malformed-exactly : MalformedExactly
+malformed-exactly op c t n = exactly op c (Malformed t n)
+
+pub address-delivered-exactly : AddressDeliveredExactly
+address-delivered-exactly op c t n = exactly op c (AddressDelivered t n)
 
 -- ---- forwarded bytes
 
+-- only capsules of no other kind are forwarded
+stays : (r : Role) → (forwardsBy r Datagram ≡ false) × (forwardsBy r Address ≡ false)
+unfolding forwardsBy
+stays Endpoint = (refl, refl)
+stays Intermediary = (refl, refl)
+
 capsule-bytes : (op : Opening) (c : Capsule) → onlyIf (forwards op (c .ctype)) (c .bytes) ≡ ifPassed (reported op c) (c .bytes)
-unfolding forwards reported reportOf
-capsule-bytes op c = go (op .role) (kindOf op (c .ctype))
+unfolding reported
+capsule-bytes op c = go (reports-of op (c .ctype) (c .size) (c .value))
   where
-    within : (b : Bool) → [] ≡ ifPassed (judged (cond b (Delivered (c .size)) (Dropped (c .size))) (c .value)) (c .bytes)
-    within true = unfold judged ifPassed in refl
-    within false = unfold judged ifPassed in refl
-
-    good : (g : Bool) → [] ≡ ifPassed (cond g (AddressDelivered (c .ctype) (c .size)) (Malformed (c .ctype) (c .size))) (c .bytes)
-    good true = unfold ifPassed in refl
-    good false = unfold ifPassed in refl
-
-    short : (b : Bool) → [] ≡ ifPassed (judged (cond b (AddressDelivered (c .ctype) (c .size)) (Malformed (c .ctype) (c .size))) (c .value)) (c .bytes)
-    short true = unfold judged in good (wellFormed (c .ctype) (c .value))
-    short false = unfold judged ifPassed in refl
-
-    go : (r : Role) (k : Kind) → onlyIf (forwardsBy r k) (c .bytes) ≡ ifPassed (judged (reportBy r (op .limit) k (c .ctype) (c .size)) (c .value)) (c .bytes)
-    go Endpoint Datagram = unfold forwardsBy reportBy onlyIf in within (leb (c .size) (op .limit))
-    go Endpoint Address = unfold forwardsBy reportBy onlyIf in short (leb (c .size) longestAddressValue)
-    go Endpoint Unknown = unfold forwardsBy reportBy onlyIf judged ifPassed in refl
-    go Intermediary Datagram = unfold forwardsBy reportBy onlyIf in within (leb (c .size) (op .limit))
-    go Intermediary Address = unfold forwardsBy reportBy onlyIf in short (leb (c .size) longestAddressValue)
-    go Intermediary Unknown = unfold forwardsBy reportBy onlyIf judged ifPassed in refl
+    go : {r : Report} → Told op c r → onlyIf (forwards op (c .ctype)) (c .bytes) ≡ ifPassed r (c .bytes)
+    go (delivered k h) = unfold forwards onlyIf ifPassed in rw (k, stays (op .role) .0)
+    go (dropped k h) = unfold forwards onlyIf ifPassed in rw (k, stays (op .role) .0)
+    go (skipped k e) = unfold forwards forwardsBy onlyIf ifPassed in rw (k, e)
+    go (passed k e) = unfold forwards forwardsBy onlyIf ifPassed in rw (k, e)
+    go (address k e) = unfold forwards onlyIf ifPassed in rw (k, stays (op .role) .1)
+    go (malformed k e) = unfold forwards onlyIf ifPassed in rw (k, stays (op .role) .1)
 
 capsules-bytes : (op : Opening) (cs : List Capsule) → fromCapsules op cs ≡ passedBytes op cs
 unfolding fromCapsules passedBytes
@@ -157,11 +126,7 @@ forwards-other op t r d = λ i. forwardsBy (r i) (passed-is op t r d i)
 
 datagram-stays : (op : Opening) (t : ℕ) → IsDatagram op t → forwards op t ≡ false
 unfolding forwards
-datagram-stays op t d = rw (datagram-exactly op t .1 d) (go (op .role))
-  where
-    go : (r : Role) → forwardsBy r Datagram ≡ false
-    go Endpoint = unfold forwardsBy in refl
-    go Intermediary = unfold forwardsBy in refl
+datagram-stays op t d = rw (datagram-exactly op t .1 d) (stays (op .role) .0)
 
 module _ (op : Opening) (e : op .role ≡ Endpoint) where
   endpoint-stays : (t : ℕ) → forwards op t ≡ false

@@ -1,26 +1,8 @@
 -- One accepted feeding: what the reader does is what the book says. Assumes nothing.
 use Rattle.walks.proofs.Words.{_≡_, refl, sym, ap, _∙_, subst, ℕ, _+_, _-_, _≤_, _<_, arith, true, none, List, [], _++_, length, take, drop, take-length}
-use Rattle.wire.specs.Bytes.{Bytes}
-use Rattle.wire.specs.Partial.{heldBytes}
-use Rattle.wire.proofs.Numbers.{bytes-append, bytes-take}
-use Rattle.wire.proofs.Parts.{empty-is}
-use Rattle.opening.specs.declared.Opening.{Opening}
-use Rattle.capsule.specs.declared.plan.Plan.{Plan}
-use Rattle.capsule.specs.declared.reader.Phase.the-variants.{InType}
-use Rattle.capsule.specs.declared.reader.Ended.{Ended}
-use Rattle.capsule.specs.declared.reader.Ended.the-variants.{Nothing, Capsule}
-use Rattle.capsule.specs.Grammar.{Stage, inType, inLength, inValue, Front, part, whole, frontBy, Parts}
-use Rattle.addresses.specs.Addresses.{longestAddressValue}
-use Rattle.opening.specs.Kinds.{opted, extentOf, forwards, gathers, keeps}
-use Rattle.capsule.specs.Book.{partsFor, onlyIf, forwarded, Taken, append, reported, endedBy, payloadBy}
-use Rattle.capsule.specs.State.{phaseAt, phaseOf}
-use Rattle.capsule.specs.Reader.{noBytes, planHead, planOf, heldOf, wrote, judgedIn, frontOf}
-use Rattle.capsule_laws.specs.Claims.{StandsAt}
-use Rattle.capsule_laws.proofs.Grammar.{part-none}
-use Rattle.capsule_laws.proofs.Appending.{Shows, shows, tail-shows, for-bytes, parts-goes, parts-ends, append-goes, append-ends}
-use Rattle.capsule_laws.proofs.Plans.{planAt, plan-is}
-use Rattle.capsule_laws.proofs.Forwarding.{forwarded-goes, forwarded-ends}
-use Rattle.capsule_laws.proofs.Gathering.{after, goes-gathered, ends-gathered, goes-kept, ends-kept, same-report, same-payload}
+use Rattle.capsule_laws.proofs.Terms.{Bytes, heldBytes, bytes-append, bytes-take, empty-is, Opening, Plan, InType, Ended, Nothing, Stage, inType, inLength, inValue, Front, part, whole, frontBy, Parts, longestAddressValue, opted, extentOf, forwards, gathers, keeps, partsFor, onlyIf, forwarded, Taken, append, reported, endedBy, payloadBy, phaseAt, phaseOf, noBytes, planHead, planOf, heldOf, wrote, judgedIn, frontOf, StandsAt}
+use Rattle.planning.specs.declared.Ended.the-variants.{Capsule}
+use Rattle.capsule_laws.proofs.{Grammar.part-none, Appending.Shows, Appending.shows, Appending.tail-shows, Appending.for-bytes, Appending.parts-goes, Appending.parts-ends, Appending.append-goes, Appending.append-ends, Plans.planAt, Plans.plan-is, Forwarding.forwarded-goes, Forwarding.forwarded-ends, Gathering.after, Gathering.gathering-buffer, Gathering.second-buffer, Gathering.goes-in, Gathering.ends-in, Gathering.same-report, Gathering.same-payload}
 
 -- the plan, against what the book makes of the piece: g is the gathering buffer, a the second one
 pub record Same (op : Opening) (s p g a : List ℕ) (plan : Plan) (t : Taken) : Type 0 where
@@ -80,8 +62,8 @@ module _ (op : Opening) (s p g a : List ℕ) (w : Bytes s) (h : Bytes p) where
           ended = ap (λ (z : Ended). judgedIn z (after (plan .keep) plan p a)) (nothing-is op r p y);
           writes = forwarded-goes op s w p y v ∙ ap (λ (n : ℕ). forwarded op s ++ wrote (plan .forward) (heldOf (phaseAt op r x)) n p) (sym c);
           payload = refl;
-          gathered = subst (λ (z : Parts). StandsAt (gathers op) (z .tail) (z .stage) (after (plan .store) plan p g)) (sym e) (goes-gathered op r p g x (tail-shows op s) sg m y v);
-          kept = subst (λ (z : Parts). StandsAt (keeps op) (z .tail) (z .stage) (after (plan .keep) plan p a)) (sym e) (goes-kept op r p a x (tail-shows op s) sa o y v);
+          gathered = subst (λ (z : Parts). StandsAt (gathers op) (z .tail) (z .stage) (after (plan .store) plan p g)) (sym e) (goes-in op (gathers op) (λ (z : Plan). z .store) r p g x (tail-shows op s) sg (gathering-buffer op g m) y v);
+          kept = subst (λ (z : Parts). StandsAt (keeps op) (z .tail) (z .stage) (after (plan .keep) plan p a)) (sym e) (goes-in op (keeps op) (λ (z : Plan). z .keep) r p a x (tail-shows op s) sa (second-buffer op a o) y v);
           bytes = bytes-append s p w h;
         }
 
@@ -95,8 +77,8 @@ module _ (op : Opening) (s p g a : List ℕ) (w : Bytes s) (h : Bytes p) where
         let z = part-none r x p t n j (tail-shows op s) v in
         let value = drop j (r ++ q) in
         let cut : drop j (r ++ take (j + extentOf op t n - length r) p) ≡ value = ap (λ (c : ℕ). drop j (r ++ take c p)) (sym (d .last)) in
-        let hg : gathers op t n ≡ true → take n g′ ≡ value = λ gs. ends-gathered op r p g x (tail-shows op s) sg m t n j v (omega arith) gs ∙ cut in
-        let ha : keeps op t n ≡ true → take n a′ ≡ value = λ gs. ends-kept op r p a x (tail-shows op s) sa o t n j v (omega arith) gs ∙ cut in
+        let hg : gathers op t n ≡ true → take n g′ ≡ value = λ gs. ends-in op (gathers op) (λ (z : Plan). z .store) r p g x (tail-shows op s) sg (gathering-buffer op g m) t n j v (omega arith) gs ∙ cut in
+        let ha : keeps op t n ≡ true → take n a′ ≡ value = λ gs. ends-in op (keeps op) (λ (z : Plan). z .keep) r p a x (tail-shows op s) sa (second-buffer op a o) t n j v (omega arith) gs ∙ cut in
         subst (Same op s p g a (planAt op r p (whole t n j))) (sym (d .is)) (record {
           phase = between op ∙ ap (λ (z : Parts). phaseAt op (z .tail) (z .stage)) (sym e);
           consumed = sym (d .last);

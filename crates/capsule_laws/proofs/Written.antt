@@ -1,9 +1,6 @@
 -- A type of one byte, a shortest length and that many bytes are, by the grammar, one complete capsule. Assumes nothing.
 use Rattle.walks.proofs.Words.{_≡_, sym, ap, _∙_, subst, ℕ, _+_, _≤_, arith, one-add, List, [], _∷_, _++_, length, drop, length-append, drop-at}
-use Rattle.wire.specs.declared.varint.Varint.the-variants.{Whole}
-use Rattle.wire.specs.Varint.{largest, readVarint, leastSize, encode}
-use Rattle.wire.proofs.Encoding.{read-back, length-encode, encode-one, size-at, width-0}
-use Rattle.capsule.specs.Grammar.{plain, inType, whole, parts}
+use Rattle.capsule_laws.proofs.Terms.{Whole, largest, readVarint, leastSize, encode, read-back, length-encode, encode-one, size-at, width-0, plain, inType, whole, parts}
 use Rattle.capsule_laws.proofs.Grammar.{Sees, seesWhole, parts-one}
 
 type-read : (t : ℕ) → t ≤ 63 → (rest : List ℕ) → readVarint (t ∷ rest) ≡ Whole t 1

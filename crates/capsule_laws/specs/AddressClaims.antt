@@ -19,7 +19,7 @@ use Rattle.opening.specs.declared.Report.the-variants.{AddressDelivered, Malfor
 use Rattle.capsule.specs.declared.reader.FeedAnswer.the-variants as fedAs
 use Rattle.capsule.specs.declared.reader.Opened.the-variants as opened
 use Rattle.capsule.specs.declared.reader.Reader.{Reader}
-use Rattle.capsule.specs.declared.reader.Verdict.the-variants.{Accepted}
+use Rattle.opening.specs.declared.Verdict.the-variants.{Accepted}
 use Rattle.capsule.specs.Grammar.{Extent, inType, inLength, inValue, Front, part, whole, frontBy, Capsule}
 use Rattle.opening.specs.Kinds.{kindOf, extentOf, gathers, keeps}
 use Rattle.capsule.specs.Calls.{Lent}

@@ -9,7 +9,7 @@ use lib.Seq.{sets}
 use lib.Dec.{leb, ltb, eqb}
 use Rattle.refusals.specs.Numbers.{unmakeableState, finished, gatheringTooShort}
 use Rattle.wire.specs.declared.partial.Partial.{Partial}
-use Rattle.wire.specs.declared.partial.Taken.the-variants.{Impossible, More, Ends}
+use Rattle.wire.specs.declared.partial.VarintTaken.the-variants.{Impossible, More, Ends}
 use Rattle.wire.specs.Varint.{largest}
 use Rattle.wire.specs.Partial.{isPartial, takeVarint}
 use Rattle.opening.specs.declared.Role.{Role}
@@ -19,23 +19,25 @@ use Rattle.opening.specs.declared.Kind.the-variants.{Datagram, Address, Unknown
 use Rattle.opening.specs.declared.Opening.{Opening}
 use Rattle.opening.specs.declared.Report.{Report}
 use Rattle.opening.specs.declared.Report.the-variants.{Delivered, Dropped, Skipped, Passed, AddressDelivered, Malformed}
-use Rattle.capsule.specs.declared.plan.Plan.{Plan}
-use Rattle.capsule.specs.declared.reader.Phase.{Phase}
-use Rattle.capsule.specs.declared.reader.Phase.the-variants.{InType, InLength, InValue}
+use Rattle.planning.specs.declared.Plan.{Plan}
+use Rattle.planning.specs.declared.Phase.{Phase}
+use Rattle.planning.specs.declared.Phase.the-variants.{InType, InLength, InValue}
 use Rattle.capsule.specs.declared.reader.Reader.{Reader}
-use Rattle.capsule.specs.declared.reader.Ended.{Ended}
-use Rattle.capsule.specs.declared.reader.Ended.the-variants.{Nothing, Capsule}
+use Rattle.planning.specs.declared.Ended.{Ended}
+use Rattle.planning.specs.declared.Ended.the-variants.{Nothing, Capsule}
 use Rattle.capsule.specs.declared.reader.FeedAnswer.{FeedAnswer}
 use Rattle.capsule.specs.declared.reader.FeedAnswer.the-variants as fedAs
 use Rattle.capsule.specs.declared.reader.CloseAnswer.the-variants as closedAs
 use Rattle.capsule.specs.declared.reader.Closed.{Closed}
-use Rattle.capsule.specs.declared.reader.Verdict.{Verdict}
-use Rattle.capsule.specs.declared.reader.Verdict.the-variants.{Accepted, Refused}
+use Rattle.opening.specs.declared.Verdict.{Verdict}
+use Rattle.opening.specs.declared.Verdict.the-variants.{Accepted, Refused}
 use Rattle.capsule.specs.Grammar as grammar
 use Rattle.capsule.specs.Grammar.{Parts, parts}
-use Rattle.capsule.specs.Calls.{Call, feed, close, Reply, refused, fed, closed, outputVerdict}
+use Rattle.capsule.specs.Calls.{Call, feed, close, Reply, refused, fed, closed}
+use Rattle.opening.specs.Lent.{outputVerdict}
 use Rattle.capsule.specs.Book.{onlyIf, firstOf, Taken, Book, endOf}
-use Rattle.capsule.specs.Reader.{noBytes, isOpening, planHead, heldOf, wrote, stored, endAt, closing, closeReply}
+use Rattle.planning.specs.Plans.{noBytes, planHead, heldOf}
+use Rattle.capsule.specs.Reader.{isOpening, wrote, stored, endAt, closing, closeReply}
 
 -- ---- kinds
 

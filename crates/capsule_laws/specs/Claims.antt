@@ -15,21 +15,17 @@ use Rattle.opening.specs.declared.Report.{Report}
 use Rattle.opening.specs.declared.Report.the-variants as report
 use Rattle.capsule.specs.declared.reader.Reader.{Reader}
 use Rattle.capsule.specs.declared.reader.Opened.the-variants.{Ready}
-use Rattle.capsule.specs.declared.reader.Ended.{Ended}
-use Rattle.capsule.specs.declared.reader.Ended.the-variants as ended
+use Rattle.planning.specs.declared.Ended.{Ended}
+use Rattle.planning.specs.declared.Ended.the-variants as ended
 use Rattle.capsule.specs.declared.reader.FeedAnswer.the-variants as fedAs
-use Rattle.capsule.specs.declared.short.Whole.the-variants as wholeAs
-use Rattle.capsule.specs.declared.short.Inside.the-variants as insideAs
-use Rattle.capsule.specs.declared.reader.Verdict.{Verdict}
-use Rattle.capsule.specs.declared.reader.Verdict.the-variants.{Accepted, Refused}
+use Rattle.opening.specs.declared.Verdict.{Verdict}
+use Rattle.opening.specs.declared.Verdict.the-variants.{Accepted, Refused}
 use Rattle.capsule.specs.Grammar.{Extent, Stage, inType, inLength, inValue, part, whole, frontBy, Capsule, partsBy, parts}
 use Rattle.opening.specs.Kinds.{opted, extentOf, finishes, gathers, keeps}
 use Rattle.capsule.specs.Calls.{Lent, lent, Call, feed, close, Reply, refused, fed, closed, run, finishesIn}
 use Rattle.capsule.specs.Book.{partsFor, forwarded, reported, Book, newBook, bookVerdict, bookCall}
 use Rattle.capsule.specs.State.{readerOf, ofBook}
-use Rattle.capsule.specs.Reader.{opening, fresh, openOf, isMakeable, feeding, feedOf, closeOf, readerCall}
-use Rattle.capsule.specs.Short.{wholeOf, insideOf}
-use Rattle.capsule.specs.Short as short
+use Rattle.capsule.specs.Reader.{opening, openOf, isMakeable, feeding, feedOf, closeOf, readerCall}
 use Rattle.capsule_laws.specs.Before as before
 
 -- ---- the grammar (proofs/Grammar.antt)
@@ -384,31 +380,3 @@ AnswersAsBefore = (r : Reader) (cs : List Call) → opted (r .opening) ≡ false
 
 abbrev pub BookAsBefore : Type 0
 BookAsBefore = (k : Book) (cs : List Call) → opted (k .opening) ≡ false → run bookCall k cs ≡ run before.bookCall k cs
-
--- ---- the short ways of a feeding (proofs/ShortWays.antt): where they answer Not, whatever the opening, the piece and the buffers, nothing was changed
-
-abbrev pub NotUnchanged : Type 0
-NotUnchanged =
-    (op : Opening) (p : List ℕ) (b : Lent)
-    → (wholeOf op p b .answer ≡ wholeAs.Not → wholeOf op p b .buffers ≡ b)
-    × ((t n left : ℕ) → insideOf op t n left p b .answer ≡ insideAs.Not → insideOf op t n left p b .buffers ≡ b)
-
--- whatever else they answer is the feeding, its buffers too: behind a short header the capsule ended and the reader is as opened, or the piece ended in the
--- value
-abbrev pub WholeFeeds : Type 0
-WholeFeeds =
-    (op : Opening) (p : List ℕ) (b : Lent)
-    → Bytes p
-    → ((consumed written : ℕ) (r : Report) → wholeOf op p b .answer ≡ wholeAs.Took consumed written r
-    → feedOf (fresh op) p b ≡ feeding (fresh op) (fedAs.Took consumed written (ended.Capsule r)) (wholeOf op p b .buffers))
-    × ((written t n left : ℕ) → wholeOf op p b .answer ≡ wholeAs.Cut written t n left
-    → feedOf (fresh op) p b ≡ feeding (short.inValue op t n left) (fedAs.Took (length p) written ended.Nothing) (wholeOf op p b .buffers))
-
--- within a value, of any state and any piece: the piece ended, or the capsule
-abbrev pub InsideFeeds : Type 0
-InsideFeeds =
-    (op : Opening) (t n left : ℕ) (p : List ℕ) (b : Lent)
-    → ((written : ℕ) → insideOf op t n left p b .answer ≡ insideAs.Took written
-    → feedOf (short.inValue op t n left) p b ≡ feeding (short.inValue op t n (left - length p)) (fedAs.Took (length p) written ended.Nothing) (insideOf op t n left p b .buffers))
-    × ((consumed written : ℕ) (r : Report) → insideOf op t n left p b .answer ≡ insideAs.Ended consumed written r
-    → feedOf (short.inValue op t n left) p b ≡ feeding (fresh op) (fedAs.Took consumed written (ended.Capsule r)) (insideOf op t n left p b .buffers))

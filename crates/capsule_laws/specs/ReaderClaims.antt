@@ -16,19 +16,19 @@ use Rattle.opening.specs.declared.Kind.the-variants as kind
 use Rattle.opening.specs.declared.Opening.{Opening}
 use Rattle.opening.specs.declared.Report.{Report}
 use Rattle.opening.specs.declared.Report.the-variants.{Delivered, Dropped, Skipped, Passed, AddressDelivered, Malformed}
-use Rattle.capsule.specs.declared.reader.Ended.{Ended}
-use Rattle.capsule.specs.declared.reader.Ended.the-variants as ended
+use Rattle.planning.specs.declared.Ended.{Ended}
+use Rattle.planning.specs.declared.Ended.the-variants as ended
 use Rattle.capsule.specs.declared.reader.FeedAnswer.the-variants as fedAs
 use Rattle.capsule.specs.declared.reader.CloseAnswer.the-variants as closedAs
 use Rattle.capsule.specs.declared.reader.Opened.the-variants as opened
 use Rattle.capsule.specs.declared.reader.Reader.{Reader}
-use Rattle.capsule.specs.declared.reader.Verdict.the-variants.{Accepted}
+use Rattle.opening.specs.declared.Verdict.the-variants.{Accepted}
 use Rattle.capsule.specs.Grammar.{Stage, inType, inLength, inValue, Capsule}
-use Rattle.opening.specs.Kinds.{kindOf, finishes}
+use Rattle.opening.specs.Kinds.{kindOf, finishes, lengthOf}
 use Rattle.capsule.specs.Calls.{Lent, Call, feed, close, fed, closed, run, finishesIn}
 use Rattle.capsule.specs.Book.{partsFor, reported, forwarded, Book, newBook, bookVerdict, bookCall, Taken, append, endOf}
 use Rattle.capsule.specs.State.{readerOf, ofBook}
-use Rattle.capsule.specs.Reader.{opening, openOf, isOpening, feedOf, closeOf, readerCall, lengthOf}
+use Rattle.capsule.specs.Reader.{opening, openOf, isOpening, feedOf, closeOf, readerCall}
 use Rattle.capsule_laws.specs.Claims.{AllBytes, consumedIn, NoneIs, HandedOn, LentWell, Stands}
 use Rattle.capsule_laws.specs.AddressClaims.{IsAddress, IsDatagram}
 

@@ -4,21 +4,11 @@ use Rattle.walks.proofs.Words.{_≡_, refl, ap, _∙_, List, [], _∷_, T}
 use Rattle.walks.proofs.Walk.{URA, Name, Fn, Ty, named, imm, w64, tyInt, tyRef, local, valueLocal, place, copy, call, seq, return, Val, WT, hasTy, Model, Heap, Closed, sem, Lfts, GhostRules, Running, givenOf, tables, ‵, _⊛_, _$_, !, move, use1, recast, split, fsplit, fjoin, look, init, stop, from, load, and-then, no-more, enter, alloc1, alloc0, params1, pass1, pass0, free0, u8, pointee, RefT, now, Denots, Is, Slot, typesAt, sliceTy, ShrSlice, shr-slice-copy, slice-vals, nothing, Lasts, atExit, Triple}
 use prog.Routine.{Env}
 use denote.Enum.Laws as EL
-use Rattle.wire.specs.declared.units.Quarter.{Quarter}
-use Rattle.wire.specs.Varint.{readVarint}
+use Rattle.datagram.proofs.Terms.{Quarter, readVarint, StreamRecord, Lookup, lookupOf, rowsTy, looking, LookedUp, asking, asks-and-looks-up, finishing, answering, ends-answering, meets-answering, Fact, Ensures, Param, word, bytes, slots, values, takes-last, clears, askedIn}
 use Rattle.wire.proofs.units.Quarter.Laws as Q′
-use Rattle.streams.specs.declared.record.StreamRecord.{StreamRecord}
-use Rattle.streams.specs.declared.table.Lookup.{Lookup}
-use Rattle.streams.specs.Tables.{lookupOf}
-use Rattle.streams.proofs.table.Lookup as L
-use Rattle.streams.proofs.table.Lookup.Laws as L′
+use Rattle.stream_records.proofs.answers.Lookup as L
+use Rattle.stream_records.proofs.answers.Lookup.Laws as L′
 use Rattle.streams.proofs.table.look_up.Symbol.{name as #look-up}
-use Rattle.streams.proofs.Elements.{rowsTy}
-use Rattle.streams.proofs.Querying.{looking, LookedUp}
-use Rattle.streams.proofs.Answering.{asking, asks-and-looks-up, finishing, answering, ends-answering, meets-answering}
-use Rattle.walks.proofs.Calling.{Fact, Ensures}
-use Rattle.walks.proofs.Passing.{Param, word, bytes, slots, values, takes-last, clears}
-use Rattle.datagram.specs.Code.{askedIn}
 
 -- the stream limit, the datagram limit and the frame: of the functions that are called, and of one that has rows too
 abbrev pub arrival : List (Param 1)

@@ -1,9 +1,5 @@
+mod Terms
 pub mod RoundTrips
-pub mod Putting
-pub mod Deciding
-pub mod Answers
-pub mod Rules
 pub mod Refusals
 pub mod Framing
 pub mod Outgoing
-pub mod Headers

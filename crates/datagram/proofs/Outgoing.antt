@@ -3,24 +3,16 @@
 use Rattle.walks.proofs.Words.{_≡_, refl, sym, ap, subst, ℕ, suc, List, [], _∷_, _++_}
 use Rattle.walks.proofs.Walk.{URA, Name, Fn, Ty, Opd, named, erased, mut, w8, w64, tyInt, tyRef, local, valueLocal, field, deref, place, copy, addrOf, aggregate, assign, call, seq, return, Val, vint, SProp, Lft, Share, flft, Heap, Env, Calls, Loops, WpFn, Atoms, Lfts, Shares, toks, Given, Item, Sq, prop, ‵, raw, _$_, !, move, fsplit, fjoin, agg, whole, sub, look-in, Opds, look, init, stop, hop, fld, from, load, addr, and-then, no-more, assigns, enter, alloc1, alloc0, params1, pass1, pass0, free0, FmC, yes, Typed, Denots, owns, RefT, now, AllWithin, Slot, plain, typesAt, sliceTy, ShrSlice, slice-vals, Lasts, atExit, all, lastsOf, Triple}
 use denote.Enum.Laws as EL
-use Rattle.wire.specs.declared.varint.Written.{Written}
+use Rattle.datagram.proofs.Terms.{Written, StreamRecord, Lookup, lookupOf, sought, rowsTy, rowsAt, looking, LookedUp, identifier, asking, Sought, seeks-and-looks-up, finishing, Fact, Ensures, Param, word, output, slots, values, takes-last, clears}
 use Rattle.wire.proofs.units.StreamId.Laws as N′
 use Rattle.wire.proofs.units.Quarter.Laws as Q′
 use Rattle.wire.proofs.varint.Written as E
 use Rattle.wire.proofs.varint.Written.Laws as E′
-use Rattle.streams.specs.declared.record.StreamRecord.{StreamRecord}
-use Rattle.streams.specs.declared.table.Lookup.{Lookup}
-use Rattle.streams.specs.Tables.{lookupOf, sought}
-use Rattle.streams.proofs.record.StreamRecord as R
-use Rattle.streams.proofs.table.Lookup as L
-use Rattle.streams.proofs.table.Lookup.Laws as L′
-use Rattle.streams.proofs.table.sought.Symbol.{name as #seek}
+use Rattle.stream_records.proofs.record.StreamRecord as R
+use Rattle.stream_records.proofs.answers.Lookup as L
+use Rattle.stream_records.proofs.answers.Lookup.Laws as L′
+use Rattle.stream_plans.proofs.plan.sought.Symbol.{name as #seek}
 use Rattle.streams.proofs.table.look_up.Symbol.{name as #look-up}
-use Rattle.streams.proofs.Elements.{rowsTy}
-use Rattle.streams.proofs.Querying.{rowsAt, looking, LookedUp}
-use Rattle.streams.proofs.Answering.{identifier, asking, Sought, seeks-and-looks-up, finishing}
-use Rattle.walks.proofs.Calling.{Fact, Ensures}
-use Rattle.walks.proofs.Passing.{Param, word, output, slots, values, takes-last, clears}
 
 abbrev pub written : {n : ℕ} → Slot n
 written = plain (λ _. E.the-row)

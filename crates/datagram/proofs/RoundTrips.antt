@@ -1,15 +1,6 @@
 -- What is written is read back. Assumes nothing.
-use Rattle.walks.proofs.Words.{_≡_, ap, ℕ, _-_, _^_, _≤_, arith, List, length, drop, length-append, drop-at, le-leb, lt-ltb}
-use Rattle.wire.specs.declared.varint.Varint.the-variants.{Whole}
-use Rattle.wire.specs.Varint.{largest, readVarint, leastSize, encode}
-use Rattle.wire.specs.Units.{largestQuarter}
-use Rattle.wire.proofs.Encoding.{read-back, length-encode, shortest}
-use Rattle.capsule_laws.proofs.Written.{one-written}
-use Rattle.datagram.specs.declared.judge.Judged.the-variants.{Delivered}
-use Rattle.streams.specs.Tables.{Table, entryAt}
-use Rattle.datagram.specs.Judging.{quarter, judgedRecord, judgedEntry, judgedRead, judgedOf, afterQuarter, isDelivered, ifDelivered, payloadOf}
-use Rattle.datagram.specs.Sending.{capsuleHeader, capsuleBytes, frameBytes}
-use Rattle.datagram.specs.Claims.{CapsuleReadBack, Receives, FrameReadBack, HeadersShortest}
+use Rattle.walks.proofs.Words.{_≡_, ℕ, _-_, _^_, _≤_, arith, List, length, drop, length-append, drop-at, le-leb, lt-ltb}
+use Rattle.datagram.proofs.Terms.{Whole, largest, readVarint, leastSize, encode, largestQuarter, read-back, length-encode, one-written, Delivered, Table, entryAt, quarter, judgedRecord, judgedEntry, judgedRead, judgedOf, afterQuarter, isDelivered, ifDelivered, payloadOf, capsuleHeader, capsuleBytes, frameBytes, CapsuleReadBack, Receives, FrameReadBack}
 
 -- ---- capsules
 
@@ -50,13 +41,3 @@ module _ (t : Table) (streams limit q place : ℕ) (payload : List ℕ) (r : Rec
 
 pub frame-read-back : FrameReadBack
 frame-read-back t streams limit q place payload r h = (delivered t streams limit q place payload r h, same-payload t streams limit q place payload r h)
-
--- ---- shortest
-
-pub headers-shortest : HeadersShortest
-unfolding capsuleBytes capsuleHeader frameBytes
-headers-shortest n size s payload e =
-    let m = shortest s n size e in (
-      λ isN. omega (arith, m, length-append (encode (length payload)) payload, length-encode (length payload), ap leastSize isN),
-      omega (arith, m, length-append (encode n) payload, length-encode n),
-    )

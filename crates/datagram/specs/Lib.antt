@@ -1,4 +1,1 @@
-pub mod Judging
-pub mod Sending
 pub mod Claims
-pub mod Code

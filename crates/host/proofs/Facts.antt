@@ -1,17 +1,11 @@
 -- What the functions that walks call ensure: close and feed, in place, of a reader and of a connection, and by value. Assumes nothing.
-use mathlib.Core.Path.{_≡_}
+use Rattle.walks.proofs.Words.{_≡_}
 use denote.Ref.{now}
-use Rattle.capsule.specs.Calls.{lent}
-use Rattle.capsule.specs.Reader.{feeding, feedOf, closing, closeOf}
+use Rattle.host.proofs.Terms.{lent, feeding, feedOf, closing, closeOf, SameBeside, alone, four, four-of-five, valued, Fact, placed}
 use Rattle.capsule.proofs.reader.CloseAnswer as E
 use Rattle.capsule.proofs.reader.FeedAnswer as F
 use Rattle.capsule.proofs.reader.Closed as C
 use Rattle.capsule.proofs.reader.Fed as D
-use Rattle.host.specs.Connections.{SameBeside}
-use Rattle.walks.proofs.Beside.{alone, four, four-of-five}
-use Rattle.walks.proofs.ByValue.{valued}
-use Rattle.walks.proofs.Calling.{Fact}
-use Rattle.walks.proofs.InPlace.{placed}
 use Rattle.host.proofs.Structs.{reader-struct, connection-struct}
 
 abbrev pub Closes : Fact (placed reader-struct E.the-row 0 (alone 1))

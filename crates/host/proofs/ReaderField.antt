@@ -4,15 +4,11 @@ use Rattle.walks.proofs.Walk.{URA, fullShare, w64, Val, vint, vstruct, vnil, vc
 use base.Logic.{all}
 use types.SemTy.{Body}
 use denote.Struct.Laws as LL
-use Rattle.capsule.specs.declared.reader.Reader.{Reader}
-use Rattle.host.specs.declared.reader.Connection.{Connection}
+use Rattle.host.proofs.Terms.{Reader, Connection, IsOf, valOf, cellOf, coded, borrowed, Lent, Lender, opens-struct, closes-struct, lends-struct, struct-back}
 use Rattle.capsule.proofs.reader.Reader as T
 use Rattle.host.proofs.reader.Connection as O
 use Rattle.host.proofs.reader.Connection.Laws as O′
-use Rattle.walks.proofs.Plain.{IsOf, valOf}
 use Rattle.host.proofs.Structs.{reader-struct, connection-struct}
-use Rattle.walks.proofs.Lying.{cellOf}
-use Rattle.walks.proofs.Lending.{coded, borrowed, Lent, Lender, opens-struct, closes-struct, lends-struct, struct-back}
 
 -- the connection with another reader
 abbrev pub with-reader : Connection → Reader → Connection

@@ -4,8 +4,6 @@ ghost use Rattle.capsule.specs.Calls.{lent};
 ghost use Rattle.capsule.specs.Reader.{feeding, feedOf, closing, closeOf};
 ghost use Rattle.host.specs.Connections.{SameBeside};
 use capsule::reader::CloseAnswer;
-use capsule::reader::Closed;
-use capsule::reader::Fed;
 use capsule::reader::FeedAnswer;
 use capsule::reader::Reader;
 
@@ -34,50 +32,11 @@ pub fn close_in_place(r: &mut Reader) -> CloseAnswer
     closed.answer
 }
 
-// From a reader by value to one in place and back: callers of these hold no reference to a reader.
-pub fn feed_by_value(
-    reader: Reader,
-    piece: &[u8],
-    gathering: &mut [u8],
-    addresses: &mut [u8],
-    output: &mut [u8],
-) -> Fed
-    ensures { λ f. ⌜ feeding (f .reader) (f .answer) (lent (now (gathering .exit)) (now (addresses .exit)) (now (output .exit))) ≡ feedOf reader (now (piece .entry)) (lent (now (gathering .entry)) (now (addresses .entry)) (now (output .entry))) ⌝ }
-{
-    let mut own = reader;
-    let answer = feed_in_place(&mut own, piece, gathering, addresses, output);
-    Fed {
-        reader: own,
-        answer: answer,
-    }
-}
-
-pub fn close_by_value(reader: Reader) -> Closed
-    ensures { λ c. ⌜ c ≡ closeOf reader ⌝ }
-{
-    let mut own = reader;
-    let answer = close_in_place(&mut own);
-    Closed {
-        reader: own,
-        answer: answer,
-    }
-}
-
 // A host's own record, with a reader in it.
 pub struct Connection {
     pub id: u64,
     pub reader: Reader,
     pub deadline: u64,
-}
-
-pub struct FedConnection {
-    pub connection: Connection,
-    pub answer: FeedAnswer,
-}
-
-pub struct ClosedConnection {
-    pub connection: Connection,
-    pub answer: CloseAnswer,
 }
 
 // The same for the reader in a connection: no other field changes.
@@ -98,34 +57,4 @@ pub fn close_connection(c: &mut Connection) -> CloseAnswer
     ensures { λ a. ⌜ (closing (now (c .exit) .reader) a ≡ closeOf (now (c .entry) .reader)) × SameBeside (now (c .entry)) (now (c .exit)) ⌝ }
 {
     close_in_place(&mut c.reader)
-}
-
-// From a connection by value to one in place and back.
-pub fn feed_connection_by_value(
-    connection: Connection,
-    piece: &[u8],
-    gathering: &mut [u8],
-    addresses: &mut [u8],
-    output: &mut [u8],
-) -> FedConnection
-    ensures { λ f. ⌜ (feeding (f .connection .reader) (f .answer) (lent (now (gathering .exit)) (now (addresses .exit)) (now (output .exit))) ≡ feedOf (connection .reader) (now (piece .entry)) (lent (now (gathering .entry)) (now (addresses .entry)) (now (output .entry))))
-        × SameBeside connection (f .connection) ⌝ }
-{
-    let mut own = connection;
-    let answer = feed_connection(&mut own, piece, gathering, addresses, output);
-    FedConnection {
-        connection: own,
-        answer: answer,
-    }
-}
-
-pub fn close_connection_by_value(connection: Connection) -> ClosedConnection
-    ensures { λ c. ⌜ (closing (c .connection .reader) (c .answer) ≡ closeOf (connection .reader)) × SameBeside connection (c .connection) ⌝ }
-{
-    let mut own = connection;
-    let answer = close_connection(&mut own);
-    ClosedConnection {
-        connection: own,
-        answer: answer,
-    }
 }

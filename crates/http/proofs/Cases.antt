@@ -1,16 +1,7 @@
 -- The cases, computed. Assumes nothing.
-use mathlib.Core.Path.{refl}
-use Rattle.http.specs.Field.{inUse, trimStart, trimEnd, sameBytes}
-use Rattle.http.specs.Translation.{translated, answer, nth, becomes}
-use Rattle.http.specs.Cases.{Cases}
+use Rattle.walks.proofs.Words.{refl}
+use Rattle.http.proofs.Terms.{inUse, trimStart, trimEnd, sameBytes, Cases}
 
 pub cases : Cases
-unfolding inUse trimStart trimEnd sameBytes translated answer nth becomes
-cases =
-    record {
-      in-use = refl;
-      not-in-use = refl;
-      unknown-errors = refl;
-      unknown-versions = refl;
-      translations = refl;
-    }
+unfolding inUse trimStart trimEnd sameBytes
+cases = record { in-use = refl; not-in-use = refl }

@@ -1,8 +1,9 @@
 -- `sameBytes` is equality of lists. Assumes nothing.
 use Rattle.walks.proofs.Words.{_≡_, refl, ap, Bool, true, false, _&&_, List, [], _∷_, _↔_, ℕ, arith, eqb-true, eq-eqb, eqb, length, getD}
-use Rattle.wire.proofs.Parts.{parted}
-use Rattle.capsule.proofs.Planning.{zero-one}
-use Rattle.http.specs.Field.{sameBytes}
+use Rattle.http.proofs.Terms.{parted, sameBytes}
+
+pub zero-one {ℓ} : {X : Type ℓ} → _≡_ {A = ℕ} 0 1 → X
+zero-one e = absurd (let n : ⊥ = omega arith in n)
 
 same : (s : List ℕ) → sameBytes s s ≡ true
 unfolding sameBytes

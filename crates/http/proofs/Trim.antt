@@ -1,6 +1,6 @@
 -- `trimStart` and `trimEnd`, byte by byte. Assumes nothing.
 use Rattle.walks.proofs.Words.{_≡_, true, false, List, [], _∷_, reverse, reverse-append, reverse-reverse, ℕ, zero, suc, _+_, _-_, _≤_, _<_, not-suc-le-zero, add-one, sub-one, length, getD, take, drop, drop-of-length-le, take-suc, drop-cons}
-use Rattle.http.specs.Field.{isSpace, trimStart, trimEnd}
+use Rattle.http.proofs.Terms.{isSpace, trimStart, trimEnd}
 
 -- ---- from the byte at i on
 

@@ -1,9 +1,7 @@
 -- A field's value that means "in use" is `?1` between spaces. Assumes nothing.
 use Rattle.walks.proofs.Words.{_≡_, refl, sym, ap, _∙_, _↔_, Bool, true, false, cond, List, [], _∷_, _++_, reverse, reverse-cons, reverse-append, reverse-reverse, ℕ, zero, suc, add-one, replicate, replicate-append-replicate, eqb-true}
-use Rattle.capsule.proofs.Planning.{zero-one}
-use Rattle.http.specs.Claims.{InUseExactly}
-use Rattle.http.specs.Field.{isSpace, trimStart, trimEnd, inUse}
-use Rattle.http.proofs.SameBytes.{same-exactly}
+use Rattle.http.proofs.Terms.{InUseExactly, isSpace, trimStart, trimEnd, inUse}
+use Rattle.http.proofs.SameBytes.{zero-one, same-exactly}
 
 abbrev spaces : ℕ → List ℕ
 spaces n = replicate n 0x20

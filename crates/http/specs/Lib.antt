@@ -2,7 +2,5 @@ pub mod Errors
 pub mod Field
 pub mod Messages
 pub mod Settings
-pub mod Translation
-pub mod Ties
 pub mod Claims
 pub mod Cases

@@ -2,23 +2,15 @@
 ghost use mathlib.Core.Path.{_≡_};
 ghost use Rattle.http.specs.Field.{isSpace, trimStart, trimEnd, inUse};
 
-fn is_space(b: u8) -> bool
-    ensures { λ r. ⌜ r ≡ isSpace b ⌝ }
+// Whether the value says that the Capsule Protocol is in use.
+pub fn in_use(value: &[u8]) -> bool
+    ensures { λ r. ⌜ r ≡ inUse (now (value .entry)) ⌝ }
 {
-    b == 0x20
-}
-
-fn trim_start(value: &[u8]) -> &[u8]
-    ensures { λ r. ⌜ now r ≡ trimStart (now (value .entry)) ⌝ }
-{
-    let mut start: usize = 0;
-    while start < value.len() {
-        if !is_space(value[start]) {
-            break;
-        }
-        start += 1;
+    let trimmed = trim_end(trim_start(value));
+    if trimmed.len() != 2 {
+        return false;
     }
-    &value[start..]
+    trimmed[0] == b'?' && trimmed[1] == b'1'
 }
 
 fn trim_end(value: &[u8]) -> &[u8]
@@ -35,13 +27,21 @@ fn trim_end(value: &[u8]) -> &[u8]
     &value[..end]
 }
 
-// Whether the value says that the Capsule Protocol is in use.
-pub fn in_use(value: &[u8]) -> bool
-    ensures { λ r. ⌜ r ≡ inUse (now (value .entry)) ⌝ }
+fn trim_start(value: &[u8]) -> &[u8]
+    ensures { λ r. ⌜ now r ≡ trimStart (now (value .entry)) ⌝ }
 {
-    let trimmed = trim_end(trim_start(value));
-    if trimmed.len() != 2 {
-        return false;
+    let mut start: usize = 0;
+    while start < value.len() {
+        if !is_space(value[start]) {
+            break;
+        }
+        start += 1;
     }
-    trimmed[0] == b'?' && trimmed[1] == b'1'
+    &value[start..]
+}
+
+fn is_space(b: u8) -> bool
+    ensures { λ r. ⌜ r ≡ isSpace b ⌝ }
+{
+    b == 0x20
 }

@@ -3,5 +3,3 @@ pub mod errors;
 pub mod field;
 pub mod messages;
 pub mod settings;
-pub mod ties;
-pub mod translation;

@@ -5,7 +5,7 @@ ghost use Rattle.http.specs.Messages.{fieldCounts, requestMalformed, res
 pub enum Message {
     Request,
     // A response with this status.
-    Response(u16),
+    Response { status: u16 },
 }
 
 impl Message {
@@ -15,7 +15,7 @@ impl Message {
     {
         match self {
             Message::Request => true,
-            Message::Response(status) => status == 101 || (200 <= status && status <= 299),
+            Message::Response { status } => status == 101 || (200 <= status && status <= 299),
         }
     }
 }
@@ -25,13 +25,6 @@ pub fn request_malformed(content_length: bool, content_type: bool, transfer_enco
     ensures { λ r. ⌜ r ≡ requestMalformed «content_length» «content_type» «transfer_encoding» ⌝ }
 {
     content_length || (content_type || transfer_encoding)
-}
-
-// Whether a response with this status is malformed.
-fn status_malformed(status: u16) -> bool
-    ensures { λ r. ⌜ r ≡ statusMalformed status ⌝ }
-{
-    status == 204 || (status == 205 || status == 206)
 }
 
 // Whether a response with this status that carries these fields is malformed.
@@ -44,4 +37,11 @@ pub fn response_malformed(
     ensures { λ r. ⌜ r ≡ responseMalformed status «content_length» «content_type» «transfer_encoding» ⌝ }
 {
     status_malformed(status) || request_malformed(content_length, content_type, transfer_encoding)
+}
+
+// Whether a response with this status is malformed.
+fn status_malformed(status: u16) -> bool
+    ensures { λ r. ⌜ r ≡ statusMalformed status ⌝ }
+{
+    status == 204 || (status == 205 || status == 206)
 }

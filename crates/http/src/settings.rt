@@ -6,7 +6,7 @@ use crate::errors::HttpError;
 
 pub enum Setting {
     // 0 or 1
-    Accepted(u64),
+    Accepted { value: u64 },
     Bad,
 }
 
@@ -20,7 +20,7 @@ pub fn received(value: u64, stored: u64) -> Setting
     if value < stored {
         return Setting::Bad;
     }
-    Setting::Accepted(value)
+    Setting::Accepted { value: value }
 }
 
 impl Setting {
@@ -29,7 +29,7 @@ impl Setting {
         ensures { λ r. ⌜ r ≡ settingError self ⌝ }
     {
         match self {
-            Setting::Accepted(_) => ErrorOf::NoError,
+            Setting::Accepted { value: _ } => ErrorOf::NoError,
             Setting::Bad => ErrorOf::Is(HttpError::BAD_SETTING),
         }
     }

@@ -5,10 +5,10 @@ use http::messages;
 use http::messages::Message;
 use http::settings;
 use http::settings::Setting;
-use http::translation;
-use http::translation::Action;
-use http::translation::ErrorCode;
-use http::translation::Translation;
+use http_errors::translation;
+use http_errors::translation::Action;
+use http_errors::translation::ErrorCode;
+use http_errors::translation::Translation;
 use libc::STDOUT_FILENO;
 use show::hex;
 use show::number;
@@ -74,7 +74,7 @@ pub(crate) fn setting(value: u64, stored: u64) {
     number(stored);
     let answer = settings::received(value, stored);
     match answer {
-        Setting::Accepted(v) => {
+        Setting::Accepted { value: v } => {
             word(b": accepted ");
             number(v);
         }
@@ -93,7 +93,7 @@ pub(crate) fn setting(value: u64, stored: u64) {
 fn name(m: Message) {
     match m {
         Message::Request => word(b"request"),
-        Message::Response(status) => {
+        Message::Response { status } => {
             word(b"response ");
             number(status as u64);
         }
@@ -110,7 +110,7 @@ fn malformed(
         Message::Request => {
             messages::request_malformed(content_length, content_type, transfer_encoding)
         }
-        Message::Response(status) => {
+        Message::Response { status } => {
             messages::response_malformed(status, content_length, content_type, transfer_encoding)
         }
     }

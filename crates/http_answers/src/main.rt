@@ -1,4 +1,4 @@
-// Prints what the crate http answers, a line for each question.
+// Prints what the crates http and http_errors answer, a line for each question.
 mod answers;
 
 use answers::message;
@@ -49,7 +49,7 @@ fn requests() {
 }
 
 fn response(status: u16) {
-    message(Message::Response(status), false, false, false);
+    message(Message::Response { status: status }, false, false, false);
 }
 
 fn responses() {
@@ -67,9 +67,9 @@ fn responses() {
 }
 
 fn responses_with_fields() {
-    message(Message::Response(200), true, false, false);
-    message(Message::Response(200), false, true, false);
-    message(Message::Response(200), false, false, true);
+    message(Message::Response { status: 200 }, true, false, false);
+    message(Message::Response { status: 200 }, false, true, false);
+    message(Message::Response { status: 200 }, false, false, true);
 }
 
 fn values_in_use() {

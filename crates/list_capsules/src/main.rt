@@ -1,3 +1,3 @@
 fn main() {
-    lister::run();
+    list_program::run();
 }

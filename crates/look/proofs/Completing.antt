@@ -1,25 +1,6 @@
 -- Bytes to come: the type and the length at the front of a tail stay whatever follows, so that only the number of the bytes that follow decides.
 use Rattle.walks.proofs.Words.{_≡_, refl, sym, ap, _∙_, ℕ, _+_, _-_, _<_, arith, Bool, true, false, cond, List, _++_, length, drop, length-append, eqb}
-use Rattle.refusals.specs.Numbers.{unmakeableState}
-use Rattle.wire.specs.declared.varint.Varint.the-variants.{Whole}
-use Rattle.wire.specs.Varint.{readVarint}
-use Rattle.wire.specs.Partial.{partialOf}
-use Rattle.opening.specs.declared.Opening.{Opening}
-use Rattle.capsule.specs.declared.reader.Reader.{Reader}
-use Rattle.capsule.specs.Grammar.{Stage, inValue, part, Parts}
-use Rattle.opening.specs.Kinds.{extentOf}
-use Rattle.capsule.specs.Book.{partsFor}
-use Rattle.capsule.specs.State.{phaseAt, phaseOf, readerOf}
-use Rattle.capsule.specs.Reader.{isMakeable}
-use Rattle.capsule.proofs.Planning.{zero-one}
-use Rattle.capsule_laws.proofs.Grammar.{seesType, seesLength, seesValue, seesWhole, head-stays}
-use Rattle.capsule_laws.proofs.Appending.{one, Shows, tail-shows, parts-goes, parts-ends}
-use Rattle.look.specs.declared.Buffer.{Buffer}
-use Rattle.look.specs.declared.Place.the-variants.{Between, InType, InValue}
-use Rattle.look.specs.declared.Sight.{Sight}
-use Rattle.look.specs.declared.Looked.the-variants.{Refused, Seen}
-use Rattle.look.specs.Looking.{placeOf, sightOf, lookOf}
-use Rattle.look.specs.Claims.{Completes, ToComeCompletes}
+use Rattle.look.proofs.Terms.{unmakeableState, Whole, readVarint, partialOf, Opening, Reader, Stage, inValue, part, Parts, extentOf, partsFor, phaseAt, phaseOf, readerOf, isMakeable, zero-one, seesType, seesLength, seesValue, seesWhole, head-stays, one, Shows, tail-shows, parts-goes, parts-ends, Buffer, Between, InType, InValue, Sight, Refused, Seen, placeOf, sightOf, lookOf, Completes, ToComeCompletes}
 
 -- a type, a length and a part of the value
 module _ (op : Opening) (s : List ℕ) (t n j k : ℕ) where

@@ -1,3 +1,4 @@
+mod Terms
 pub mod Streams
 pub mod Completing
 pub mod States

@@ -1,19 +1,7 @@
 -- Of every state: by whether it is makeable, which its mark does not decide; and the buffer of a value.
-use Rattle.walks.proofs.Words.{_≡_, refl, sym, ap, _∙_, _↔_, ℕ, _≤_, arith, Bool, true, false, cond}
-use mathlib.Core.Logic.{inl, inr}
-use Rattle.refusals.specs.Numbers.{unmakeableState}
-use Rattle.opening.specs.declared.Opening.{Opening}
-use Rattle.opening.specs.Kinds.{gathers, keeps}
-use Rattle.capsule.specs.Reader.{isMakeable}
-use Rattle.capsule.proofs.Planning.{zero-one, no-true}
-use Rattle.capsule_laws.specs.Claims.{Makes}
-use Rattle.capsule_laws.specs.AddressClaims.{IsAddress, IsDatagram}
-use Rattle.capsule_laws.proofs.Addresses.{gathers-exactly, keeps-exactly}
-use Rattle.capsule_laws.proofs.Makeable.{makeable-exactly}
+use Rattle.walks.proofs.Words.{_≡_, refl, sym, ap, _∙_, _↔_, ℕ, _≤_, arith, Bool, true, false, cond, inl, inr}
+use Rattle.look.proofs.Terms.{unmakeableState, Opening, gathers, keeps, isMakeable, zero-one, no-true, Makes, IsAddress, IsDatagram, gathers-exactly, keeps-exactly, makeable-exactly, Refused, Seen, bufferOf, storedIn, sightOf, lookOf, BufferOf, BufferExactly, StoredExactly, RefusedExactly, marked, seenMarked, FinishedSeen}
 use Rattle.look.specs.declared.Buffer.the-variants as buffer
-use Rattle.look.specs.declared.Looked.the-variants.{Refused, Seen}
-use Rattle.look.specs.Looking.{bufferOf, storedIn, sightOf, lookOf}
-use Rattle.look.specs.Claims.{BufferOf, BufferExactly, StoredExactly, RefusedExactly, marked, seenMarked, FinishedSeen}
 
 pub refused-exactly : RefusedExactly
 unfolding lookOf

@@ -1,25 +1,6 @@
 -- What a look says of the reader of a stream is what the grammar says of the stream: of each stage, by what stands at the tail's front.
 use Rattle.walks.proofs.Words.{_≡_, refl, _∙_, ℕ, suc, _+_, _-_, _<_, arith, Bool, true, false, cond, List, [], _∷_, length, drop, length-drop, leb, ne-eqb}
-use Rattle.wire.specs.declared.varint.Varint.the-variants.{Whole}
-use Rattle.wire.specs.Varint.{readVarint}
-use Rattle.wire.specs.Partial.{partialOf}
-use Rattle.wire.proofs.Reading.{no-whole-nil}
-use Rattle.wire.proofs.Parts.{both}
-use Rattle.addresses.specs.Addresses.{longestAddressValue}
-use Rattle.opening.specs.declared.Opening.{Opening}
-use Rattle.opening.specs.declared.Kind.{Kind}
-use Rattle.opening.specs.declared.Kind.the-variants.{Datagram, Address, Unknown}
-use Rattle.capsule.specs.Grammar.{Stage, inLength, inValue, part}
-use Rattle.opening.specs.Kinds.{kindOf, extentBy, extentOf}
-use Rattle.capsule.specs.Book.{partsFor}
-use Rattle.capsule.specs.State.{phaseAt, phaseOf, readerOf}
-use Rattle.capsule.specs.Reader.{isMakeable}
-use Rattle.capsule_laws.proofs.Grammar.{seesType, seesLength, seesValue, head-fits}
-use Rattle.capsule_laws.proofs.Appending.{Shows, tail-shows}
-use Rattle.capsule_laws.proofs.Lists.{made-stream}
-use Rattle.look.specs.declared.Place.the-variants.{InValue}
-use Rattle.look.specs.Looking.{bufferOf, storedIn, placeOf, sightOf, lookOf}
-use Rattle.look.specs.Claims.{withinAt, placeAt, placeIn, LookOfStream}
+use Rattle.look.proofs.Terms.{Whole, readVarint, partialOf, no-whole-nil, both, longestAddressValue, Opening, Kind, Datagram, Address, Unknown, Stage, inLength, inValue, part, kindOf, extentBy, extentOf, partsFor, phaseAt, phaseOf, readerOf, isMakeable, seesType, seesLength, seesValue, head-fits, Shows, tail-shows, made-stream, InValue, bufferOf, storedIn, placeOf, sightOf, lookOf, withinAt, placeAt, placeIn, LookOfStream}
 
 -- a value that is waited for is waited for to its length
 all-waited : (op : Opening) (t n : ℕ) → 0 < extentOf op t n → extentOf op t n ≡ n

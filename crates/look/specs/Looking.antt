@@ -4,8 +4,8 @@ use mathlib.Core.Bool.{cond}
 use lib.Dec.{eqb}
 use Rattle.refusals.specs.Numbers.{unmakeableState}
 use Rattle.opening.specs.declared.Opening.{Opening}
-use Rattle.capsule.specs.declared.reader.Phase.{Phase}
-use Rattle.capsule.specs.declared.reader.Phase.the-variants as phase
+use Rattle.planning.specs.declared.Phase.{Phase}
+use Rattle.planning.specs.declared.Phase.the-variants as phase
 use Rattle.capsule.specs.declared.reader.Reader.{Reader}
 use Rattle.opening.specs.Kinds.{extentOf, gathers, keeps}
 use Rattle.capsule.specs.Reader.{isMakeable}

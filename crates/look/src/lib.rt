@@ -1,11 +1,11 @@
 // A look at a reader: how far its stream has come. Nothing is changed.
 ghost use mathlib.Core.Path.{_≡_};
 ghost use mathlib.Core.Bool.{true};
-ghost use Rattle.capsule.specs.Reader.{isMakeablePhase};
+ghost use Rattle.planning.specs.Plans.{isMakeablePhase};
 ghost use Rattle.look.specs.Looking.{bufferOf, storedIn, placeOf, lookOf};
-use capsule::reader::Phase;
 use capsule::reader::Reader;
 use opening::Opening;
+use planning::Phase;
 use refusals::Refusal;
 
 // Which lent buffer the bytes of a value are stored in.
@@ -48,6 +48,55 @@ pub enum Looked {
     Seen(Sight),
 }
 
+// A finished reader is answered, too. What no opening, feeding and closing makes is refused with 1.
+pub fn look(reader: Reader) -> Looked
+    ensures { λ r. ⌜ r ≡ lookOf reader ⌝ }
+{
+    if !reader.is_makeable() {
+        return Looked::Refused(Refusal::UNMAKEABLE_STATE);
+    }
+    let opening = reader.opening;
+    let phase = reader.phase;
+    let place = place_of(opening, phase);
+    Looked::Seen(Sight {
+        finished: reader.finished,
+        limit: opening.limit,
+        place: place,
+    })
+}
+
+fn place_of(opening: Opening, phase: Phase) -> Place
+    requires { ⌜ isMakeablePhase opening phase ≡ true ⌝ }
+    ensures { λ r. ⌜ r ≡ placeOf opening phase ⌝ }
+{
+    match phase {
+        Phase::InType(part) => {
+            if part.have == 0 {
+                return Place::Between;
+            }
+            Place::InType
+        }
+        Phase::InLength { ctype, part: _ } => Place::InLength {
+            capsule_type: ctype,
+        },
+        Phase::InValue {
+            ctype,
+            length,
+            left,
+        } => {
+            let buffer = buffer_of(opening, ctype, length);
+            let gathered = stored_in(buffer, opening.extent(ctype, length) - left);
+            Place::InValue {
+                capsule_type: ctype,
+                length: length,
+                to_come: left,
+                gathered: gathered,
+                buffer: buffer,
+            }
+        }
+    }
+}
+
 fn buffer_of(opening: Opening, ctype: u64, length: u64) -> Buffer
     ensures { λ r. ⌜ r ≡ bufferOf opening ctype length ⌝ }
 {
@@ -69,49 +118,4 @@ fn stored_in(buffer: Buffer, came: u64) -> u64
         Buffer::Gathering => came,
         Buffer::Addresses => came,
     }
-}
-
-fn place_of(opening: Opening, phase: Phase) -> Place
-    requires { ⌜ isMakeablePhase opening phase ≡ true ⌝ }
-    ensures { λ r. ⌜ r ≡ placeOf opening phase ⌝ }
-{
-    match phase {
-        Phase::InType(part) => {
-            if part.have == 0 {
-                return Place::Between;
-            }
-            Place::InType
-        }
-        Phase::InLength(ctype, _) => Place::InLength {
-            capsule_type: ctype,
-        },
-        Phase::InValue(ctype, length, left) => {
-            let buffer = buffer_of(opening, ctype, length);
-            let gathered = stored_in(buffer, opening.extent(ctype, length) - left);
-            Place::InValue {
-                capsule_type: ctype,
-                length: length,
-                to_come: left,
-                gathered: gathered,
-                buffer: buffer,
-            }
-        }
-    }
-}
-
-// A finished reader is answered, too. What no opening, feeding and closing makes is refused with 1.
-pub fn look(reader: Reader) -> Looked
-    ensures { λ r. ⌜ r ≡ lookOf reader ⌝ }
-{
-    if !reader.is_makeable() {
-        return Looked::Refused(Refusal::UNMAKEABLE_STATE);
-    }
-    let opening = reader.opening;
-    let phase = reader.phase;
-    let place = place_of(opening, phase);
-    Looked::Seen(Sight {
-        finished: reader.finished,
-        limit: opening.limit,
-        place: place,
-    })
 }

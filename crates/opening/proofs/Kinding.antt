@@ -1,10 +1,6 @@
 -- What an opening makes of a type, as the code asks. Assumes nothing.
 use Rattle.walks.proofs.Words.{_≡_, refl, sym, ap, _∙_, ℕ, _≤_, arith, Bool, true, false, cond, _&&_, _||_, leb, eqb, leb-true, le-leb, lt-leb, eq-eqb, ne-eqb}
-use Rattle.wire.proofs.Parts.{parted}
-use Rattle.opening.specs.declared.Kind.the-variants.{Datagram, Address, Unknown}
-use Rattle.opening.specs.declared.Opening.{Opening}
-use Rattle.addresses.specs.Addresses.{isAddressType}
-use Rattle.opening.specs.Kinds.{opted, kindOf}
+use Rattle.opening.proofs.Terms.{parted, Datagram, Address, Unknown, Opening, isAddressType, opted, kindOf}
 
 and-false : (b : Bool) → b && false ≡ false
 and-false true = refl

@@ -1,1 +1,3 @@
+mod Terms
 pub mod Kinding
+pub mod Lending

@@ -43,6 +43,15 @@ reportBy Intermediary limit Unknown t n = Passed t n
 unfoldable pub reportOf : Opening → ℕ → ℕ → Report
 reportOf op t n = reportBy (op .role) (op .limit) (kindOf op t) t n
 
+-- the length that a report gives
+unfoldable pub lengthOf : Report → ℕ
+lengthOf (Delivered n) = n
+lengthOf (Dropped n) = n
+lengthOf (Skipped t n) = n
+lengthOf (Passed t n) = n
+lengthOf (AddressDelivered t n) = n
+lengthOf (Malformed t n) = n
+
 -- the judgement of an address capsule's value
 unfoldable pub judged : Report → List ℕ → Report
 judged (Delivered n) v = Delivered n

@@ -2,7 +2,9 @@
 ghost use mathlib.Core.Path.{_≡_};
 ghost use mathlib.Core.Bool.{_&&_};
 ghost use Rattle.addresses.specs.Addresses.{isAddressType};
-ghost use Rattle.opening.specs.Kinds.{opted, kindOf, extentOf, reportOf, forwards, gathers, keeps};
+ghost use Rattle.opening.specs.Kinds.{opted, kindOf, extentOf, reportOf, forwards, gathers, keeps, finishes};
+ghost use Rattle.opening.specs.Lent.{lentVerdict};
+use refusals::Refusal;
 
 pub enum Role {
     Endpoint,
@@ -27,12 +29,18 @@ pub enum Kind {
 
 // What is said of a capsule that has ended: its length, and before it its type unless it is a DATAGRAM.
 pub enum Report {
-    Delivered(u64),
-    Dropped(u64),
-    Skipped(u64, u64),
-    Passed(u64, u64),
-    AddressDelivered(u64, u64),
-    Malformed(u64, u64),
+    Delivered { length: u64 },
+    Dropped { length: u64 },
+    Skipped { ctype: u64, length: u64 },
+    Passed { ctype: u64, length: u64 },
+    AddressDelivered { ctype: u64, length: u64 },
+    Malformed { ctype: u64, length: u64 },
+}
+
+// What stands before a call: its refusal, or none.
+pub enum Verdict {
+    Accepted,
+    Refused(Refusal),
 }
 
 impl Opening {
@@ -91,30 +99,6 @@ impl Opening {
         }
     }
 
-    // Address capsules are for endpoints that opted in.
-    fn opted(self) -> bool
-        ensures { λ r. ⌜ r ≡ opted self ⌝ }
-    {
-        let role = self.role;
-        match role {
-            Role::Endpoint => self.addresses,
-            Role::Intermediary => false,
-        }
-    }
-
-    // Whether this type is an address capsule's, and those are taken.
-    fn takes_addresses(self, ctype: u64) -> bool
-        ensures { λ r. ⌜ r ≡ opted self && isAddressType ctype ⌝ }
-    {
-        if !self.opted() {
-            return false;
-        }
-        if ctype == Kind::DATAGRAM {
-            return false;
-        }
-        ctype <= Kind::ROUTE_ADVERTISEMENT
-    }
-
     pub fn kind(self, ctype: u64) -> Kind
         ensures { λ r. ⌜ r ≡ kindOf self ctype ⌝ }
     {
@@ -140,23 +124,47 @@ impl Opening {
         match kind {
             Kind::Datagram => {
                 if length <= self.limit {
-                    return Report::Delivered(length);
+                    return Report::Delivered { length };
                 }
-                Report::Dropped(length)
+                Report::Dropped { length }
             }
             Kind::Address => {
                 if length <= Kind::LONGEST_ADDRESS_VALUE {
-                    return Report::AddressDelivered(ctype, length);
+                    return Report::AddressDelivered { ctype, length };
                 }
-                Report::Malformed(ctype, length)
+                Report::Malformed { ctype, length }
             }
             Kind::Unknown => {
                 let role = self.role;
                 match role {
-                    Role::Endpoint => Report::Skipped(ctype, length),
-                    Role::Intermediary => Report::Passed(ctype, length),
+                    Role::Endpoint => Report::Skipped { ctype, length },
+                    Role::Intermediary => Report::Passed { ctype, length },
                 }
             }
+        }
+    }
+
+    // Whether this type is an address capsule's, and those are taken.
+    fn takes_addresses(self, ctype: u64) -> bool
+        ensures { λ r. ⌜ r ≡ opted self && isAddressType ctype ⌝ }
+    {
+        if !self.opted() {
+            return false;
+        }
+        if ctype == Kind::DATAGRAM {
+            return false;
+        }
+        ctype <= Kind::ROUTE_ADVERTISEMENT
+    }
+
+    // Address capsules are for endpoints that opted in.
+    fn opted(self) -> bool
+        ensures { λ r. ⌜ r ≡ opted self ⌝ }
+    {
+        let role = self.role;
+        match role {
+            Role::Endpoint => self.addresses,
+            Role::Intermediary => false,
         }
     }
 }
@@ -173,4 +181,66 @@ impl Kind {
 
     // draft-ietf-masque-h3-datagram-05
     pub const DRAFT_DATAGRAM: u64 = 0xff37a5;
+}
+
+// What the lengths of the piece and of the lent buffers refuse.
+pub fn lent_verdict(
+    op: Opening,
+    piece: usize,
+    gathering: usize,
+    addresses: usize,
+    output: usize,
+) -> Verdict
+    ensures { λ r. ⌜ r ≡ lentVerdict op piece gathering addresses output ⌝ }
+{
+    if (gathering as u64) < op.limit {
+        return Verdict::Refused(Refusal::GATHERING_TOO_SHORT);
+    }
+    let role = op.role;
+    match role {
+        Role::Endpoint => {
+            if !op.addresses {
+                return Verdict::Accepted;
+            }
+            if (addresses as u64) < Kind::LONGEST_ADDRESS_VALUE {
+                return Verdict::Refused(Refusal::ADDRESSES_TOO_SHORT);
+            }
+            Verdict::Accepted
+        }
+        Role::Intermediary => {
+            if output < 8 {
+                return Verdict::Refused(Refusal::OUTPUT_TOO_SHORT);
+            }
+            if output - 8 < piece {
+                return Verdict::Refused(Refusal::OUTPUT_TOO_SHORT);
+            }
+            Verdict::Accepted
+        }
+    }
+}
+
+// Whether nothing may follow.
+pub fn is_last_report(report: Report) -> bool
+    ensures { λ r. ⌜ r ≡ finishes report ⌝ }
+{
+    match report {
+        Report::Delivered { length: _ } => false,
+        Report::Dropped { length: _ } => false,
+        Report::Skipped {
+            ctype: _,
+            length: _,
+        } => false,
+        Report::Passed {
+            ctype: _,
+            length: _,
+        } => false,
+        Report::AddressDelivered {
+            ctype: _,
+            length: _,
+        } => false,
+        Report::Malformed {
+            ctype: _,
+            length: _,
+        } => true,
+    }
 }

@@ -1,3 +1,4 @@
+mod Terms
 pub mod Reading
 pub mod Tables
 pub mod Writers

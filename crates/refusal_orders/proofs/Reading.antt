@@ -1,41 +1,15 @@
 -- Numbers on the wire, readers, listing and translation are refused by their lists. Assumes nothing.
 use Rattle.walks.proofs.Words.{ℕ, _+_, _-_, _^_, _≤_, _<_, arith, _≡_, refl, subst, Bool, true, false, cond, _↔_, List, [], _∷_, length, eqb}
-use Rattle.refusals.specs.declared.Refusal.{Refusal}
-use Rattle.refusals.specs.Numbers.{refusal, unknownErrorOrVersion}
-use Rattle.refusals.specs.First.{Order, Refuses}
-use Rattle.refusals.proofs.First.{Unless, unless, when-true, unless-above, only, passes, stops, goes-on, stops-when, stops-unless}
+use Rattle.refusal_orders.proofs.Terms.{Refusal, refusal, unknownErrorOrVersion, Order, Refuses, Unless, unless, when-true, unless-above, only, passes, stops, goes-on, stops-when, stops-unless, largest, Writing, refuses, writeAt, writeVarint, split, longestAddressValue, Role, Endpoint, Intermediary, Phase, InType, InLength, InValue, Closed, Reader, Verdict, Accepted, Refused, optedBy, opted, Lent, outputVerdict, addressesVerdict, lentVerdict, isOpening, openOf, isMakeable, verdictOf, fedBy, takeOf, feedBy, feedOf, endAt, closeOf, zero-one, no-true, Makes, makeable-exactly, lookOf, listingOf, Translation, errors, versions, translated, nth-below, nth-past, unknown-error, unknown-version, known, VarintWriting, ReaderOpening, Feeding, Closing, Looking, Listing, Translating}
 use Rattle.wire.specs.declared.varint.Written.the-variants as written
-use Rattle.wire.specs.Varint.{largest}
-use Rattle.wire.specs.Writing.{Writing, refuses, writeAt, writeVarint}
-use Rattle.wire.proofs.Reading.{split}
-use Rattle.addresses.specs.Addresses.{longestAddressValue}
-use Rattle.opening.specs.declared.Role.{Role}
-use Rattle.opening.specs.declared.Role.the-variants.{Endpoint, Intermediary}
 use Rattle.capsule.specs.declared.reader.Opened.the-variants as opened
 use Rattle.capsule.specs.declared.reader.FeedAnswer.the-variants as fedAs
-use Rattle.capsule.specs.declared.reader.Phase.{Phase}
-use Rattle.capsule.specs.declared.reader.Phase.the-variants.{InType, InLength, InValue}
 use Rattle.capsule.specs.declared.reader.CloseAnswer.the-variants as closedAs
-use Rattle.capsule.specs.declared.reader.Closed.{Closed}
-use Rattle.capsule.specs.declared.reader.Reader.{Reader}
-use Rattle.capsule.specs.declared.reader.Verdict.{Verdict}
-use Rattle.capsule.specs.declared.reader.Verdict.the-variants.{Accepted, Refused}
-use Rattle.opening.specs.Kinds.{optedBy, opted}
-use Rattle.capsule.specs.Calls.{Lent, outputVerdict, addressesVerdict, lentVerdict}
-use Rattle.capsule.specs.Reader.{isOpening, openOf, isMakeable, verdictOf, fedBy, takeOf, feedBy, feedOf, endAt, closeOf}
-use Rattle.capsule.proofs.Planning.{zero-one, no-true}
-use Rattle.capsule_laws.specs.Claims.{Makes}
-use Rattle.capsule_laws.proofs.Makeable.{makeable-exactly}
 use Rattle.look.specs.declared.Looked.the-variants as looked
-use Rattle.look.specs.Looking.{lookOf}
-use Rattle.listing.specs.declared.Listed.the-variants as listed
-use Rattle.listing.specs.Listing.{listingOf}
-use Rattle.http.specs.declared.translation.Translation.{Translation}
-use Rattle.http.specs.declared.translation.Translation.the-variants as translation
-use Rattle.http.specs.Translation.{errors, versions, translated}
-use Rattle.http.proofs.Lookup.{nth-below, nth-past, unknown-error, unknown-version, known}
+use Rattle.one_shot_listing.specs.declared.Listed.the-variants as listed
+use Rattle.http_errors.specs.declared.translation.Translation.the-variants as translation
 use Rattle.refusal_orders.specs.Orders as order
-use Rattle.refusal_orders.specs.Claims.{VarintWriting, ReaderOpening, Feeding, Closing, Looking, Listing, Translating}
+use Rattle.refusal_orders.proofs.Tables.{neither}
 
 -- a call with one refusal
 alone : {A : Type 0} (refuse : Refusal → A) {t : Bool} {x : A} {m : ℕ} {C : Type 0}
@@ -104,13 +78,9 @@ feeding r piece b =
 
 ends : (p : Phase) (n : ℕ) → endAt p ≡ closedAs.Refused (refusal n) → ⊥
 unfolding endAt
-ends (InType part) n e = go (eqb (part .have) 0) e
-  where
-    go : (t : Bool) → cond t closedAs.Clean closedAs.Truncated ≡ closedAs.Refused (refusal n) → ⊥
-    go true d = zero-one (cc)
-    go false d = zero-one (cc)
-ends (InLength t part) n e = zero-one (cc)
-ends (InValue t m left) n e = zero-one (cc)
+ends (InType part) n = neither (λ a. a ≡ closedAs.Refused (refusal n)) (eqb (part .have) 0) (λ d. zero-one (cc)) (λ d. zero-one (cc))
+ends (InLength t part) n = λ e. zero-one (cc)
+ends (InValue t m left) n = λ e. zero-one (cc)
 
 pub closing : Closing
 unfolding closeOf

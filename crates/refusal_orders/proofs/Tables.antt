@@ -1,39 +1,10 @@
 -- The stream table's calls, and judging, are refused each by its list. Assumes nothing.
 use Rattle.walks.proofs.Words.{_≡_, refl, sym, _∙_, ℕ, _-_, _/_, _^_, Bool, true, false, cond, true≢false, _↔_, [], _∷_, length, getD, leb, ltb}
-use Rattle.refusals.specs.declared.Refusal.{Refusal}
-use Rattle.refusals.specs.Numbers.{refusal, notARequestStream, notInTable, badTable}
-use Rattle.refusals.specs.First.{Order, Refuses}
-use Rattle.refusals.proofs.First.{When, unless-above, only, passes, stops, goes-on, stops-when, stops-unless}
-use Rattle.wire.specs.declared.units.StreamId.{StreamId}
-use Rattle.wire.specs.declared.units.Quarter.{Quarter}
-use Rattle.wire.specs.declared.units.QuarterOf.the-variants.{NotRequestStream, Is}
-use Rattle.wire.specs.declared.varint.Varint.{Varint}
-use Rattle.wire.specs.declared.varint.Varint.the-variants.{Incomplete, Whole}
-use Rattle.wire.specs.Varint.{readVarint}
-use Rattle.wire.specs.Units.{IsRequestStream, isRequest, largestQuarter, quarterOf}
-use Rattle.wire.proofs.Identifiers.{request-exactly}
-use Rattle.streams.specs.declared.record.StreamRecord.{StreamRecord}
-use Rattle.streams.specs.declared.table.Found.{Found}
-use Rattle.streams.specs.declared.table.Found.the-variants.{Nothing, At}
-use Rattle.streams.specs.declared.table.Entry.{Entry}
-use Rattle.streams.specs.declared.table.Entry.the-variants.{Absent, Present}
-use Rattle.streams.specs.declared.table.Opening.{Opening}
-use Rattle.streams.specs.declared.table.Opening.the-variants as opening
-use Rattle.streams.specs.declared.table.Closing.the-variants as closing
-use Rattle.streams.specs.declared.table.Standing.the-variants as standing
-use Rattle.streams.specs.Records.{blank, receiveOpen, hasSemantics}
-use Rattle.streams.specs.Words.{UsedBelow, GoodTable, InTable, Any}
-use Rattle.streams.specs.Tables.{Table, isBad, find, entryAt, entryOf, lowestFree, openAt, openEntry, openingOf, closeEntry, closingOf, standEntry, standingOf}
-use Rattle.streams.proofs.Places.{no-place}
-use Rattle.streams.proofs.Goodness.{good-exactly}
-use Rattle.streams.proofs.Tabled.{in-table, not-in-table}
-use Rattle.streams.proofs.Openings.{lowest-none, none-lowest}
-use Rattle.capsule.proofs.Planning.{zero-one}
-use Rattle.datagram.specs.declared.judge.Judged.{Judged}
-use Rattle.datagram.specs.declared.judge.Judged.the-variants as judged
-use Rattle.datagram.specs.Judging.{quarter, judgedRecord, judgedEntry, judgedRead, judgedOf}
-use Rattle.refusal_orders.specs.Orders.{streamNamed}
-use Rattle.refusal_orders.specs.Claims.{StreamOpening, SideClosing, StreamFinding, Judging}
+use Rattle.refusal_orders.proofs.Terms.{Refusal, refusal, notARequestStream, notInTable, badTable, Order, Refuses, When, unless-above, only, passes, stops, goes-on, stops-when, stops-unless, StreamId, Quarter, NotRequestStream, Is, Varint, Incomplete, Whole, readVarint, IsRequestStream, isRequest, largestQuarter, quarterOf, request-exactly, StreamRecord, Found, Nothing, At, Entry, Absent, Present, StreamOpened, blank, receiveOpen, hasSemantics, UsedBelow, GoodTable, InTable, Any, Table, isBad, find, entryAt, entryOf, lowestFree, openAt, openEntry, openingOf, closeEntry, closingOf, standEntry, standingOf, no-place, good-exactly, in-table, not-in-table, lowest-none, none-lowest, zero-one, Judged, quarter, judgedRecord, judgedEntry, judgedRead, judgedOf, streamNamed, StreamOpening, SideClosing, StreamFinding, Judging}
+use Rattle.stream_records.specs.declared.answers.StreamOpened.the-variants as opening
+use Rattle.stream_records.specs.declared.answers.SideClosed.the-variants as closing
+use Rattle.stream_records.specs.declared.answers.Standing.the-variants as standing
+use Rattle.judging.specs.declared.judge.Judged.the-variants as judged
 
 when-bad : (t : Table) → When (isBad t) (GoodTable t → ⊥)
 when-bad t = record { on = λ e g. true≢false (sym e ∙ good-exactly t .1 g); off = λ e n. n (good-exactly t .0 e) }
@@ -67,7 +38,7 @@ module _ {X : Type 0} (refused : X → ℕ → Type 0) (Refused : Refusal → X)
 -- ---- the calls
 
 -- each answer's refusals
-abbrev opens : Opening → ℕ → Type 0
+abbrev opens : StreamOpened → ℕ → Type 0
 opens a n = a ≡ opening.Refused (refusal n)
 
 open-number : (m n : ℕ) → opens (opening.Refused (refusal m)) n ↔ (n ≡ m)
@@ -112,24 +83,25 @@ stream-finding t id = found-or-not standing.Refused (λ a b e. cc) t id standEnt
 
 -- ---- judging
 
+-- what holds of neither answer does not hold of the one that a test picks
+pub neither : {A : Type 0} (P : A → Type 0) (t : Bool) {x y : A} → (P x → ⊥) → (P y → ⊥) → P (cond t x y) → ⊥
+neither P true h k = h
+neither P false h k = k
+
 -- no rule is a refusal
 rule-not : (t : Table) (streams limit n : ℕ) (v : Varint) (m : ℕ) → judges (judgedRead t streams limit n v) m → ⊥
-unfolding judgedRead judgedEntry judgedRecord
-rule-not t streams limit n Incomplete m e = zero-one (cc)
-rule-not t streams limit n (Whole q size) m e = go (leb q largestQuarter) (ltb q streams) (entryOf q t) e
+unfolding judgedRead
+rule-not t streams limit n Incomplete m = λ e. zero-one (cc)
+rule-not t streams limit n (Whole q size) m = either (leb q largestQuarter) (either (ltb q streams) (kept (entryOf q t)) (λ e. zero-one (cc))) (λ e. zero-one (cc))
   where
-    kept : (place : ℕ) (a b c : Bool)
-        → judges (cond a (cond b (cond c (judged.Delivered (quarter q) place) (judged.TooLong (quarter q) place)) (judged.NoSemantics (quarter q) place)) (judged.ReceiveClosed (quarter q) place)) m → ⊥
-    kept place true true true d = zero-one (cc)
-    kept place true true false d = zero-one (cc)
-    kept place true false c d = zero-one (cc)
-    kept place false b c d = zero-one (cc)
+    either : (t : Bool) {x y : Judged} → (judges x m → ⊥) → (judges y m → ⊥) → judges (cond t x y) m → ⊥
+    either = neither (λ a. judges a m)
 
-    go : (a b : Bool) (x : Entry) → judges (cond a (cond b (judgedEntry x q limit (n - size)) (judged.BeyondLimit (quarter q))) (judged.QuarterTooLarge (quarter q))) m → ⊥
-    go true true Absent d = zero-one (cc)
-    go true true (Present place r) d = kept place (receiveOpen r) (hasSemantics r) (leb (n - size) limit) d
-    go true false x d = zero-one (cc)
-    go false b x d = zero-one (cc)
+    kept : (x : Entry) → judges (judgedEntry x q limit (n - size)) m → ⊥
+    kept Absent = unfold judgedEntry in λ e. zero-one (cc)
+    kept (Present place r) =
+        unfold judgedEntry judgedRecord in
+        either (receiveOpen r) (either (hasSemantics r) (either (leb (n - size) limit) (λ e. zero-one (cc)) (λ e. zero-one (cc))) (λ e. zero-one (cc))) (λ e. zero-one (cc))
 
 pub judging : Judging
 unfolding judgedOf

@@ -1,34 +1,8 @@
 -- The writers of capsules and frames are refused each by its list. Assumes nothing.
 use Rattle.walks.proofs.Words.{_≡_, refl, sym, ap, subst, _∙_, ℕ, suc, _+_, _/_, _%_, _<_, _&&_, not, arith, Bool, true, false, cond, true≢false, false≢true, _↔_, List, [], _∷_, length, getD, length-append, leb, eqb, eq-eqb, eqb-true}
-use Rattle.refusals.specs.declared.Refusal.{Refusal}
-use Rattle.refusals.specs.Numbers.{refusal}
-use Rattle.refusals.specs.First.{Order, Refuses}
-use Rattle.refusals.proofs.First.{Unless, unless, unless-above, only, passes, goes-on, stops-unless}
-use Rattle.wire.specs.declared.units.StreamId.{StreamId}
+use Rattle.refusal_orders.proofs.Terms.{Refusal, refusal, Order, Refuses, Unless, unless, unless-above, only, passes, goes-on, stops-unless, StreamId, IsRequestStream, encode, Writing, refuses, writeAt, both, parted, StreamRecord, At, blank, sendOpen, hasSemantics, GoodTable, InTable, Any, Table, isBad, find, entryOf, at-place, zero-one, Sending, quarter, capsuleHeader, capsuleBytes, frameBytes, agreed, sendingRecord, sendingEntry, sendingOf, putCapsule, putFrame, putCapsuleHeader, putFrameHeader, capsuleWritten, frameWritten, frameHeaderWritten, writeCapsule, writeFrame, writeFrameHeader, assign, request, route, allOf, wellFormed, isWhole, entriesIn, idFits, AddressCapsule, addressAssign, addressRequest, routeAdvertisement, LargeId, hasLargeId, typeOf, valueOf, writeOf, capsuleOf, writeValue, writeAddresses, writeRoutes, whole-exactly, large-id-exactly, TooShort, WritingRefuses, CapsuleWriting, FrameWriting, FrameHeaderWriting, DatagramWriting, DatagramHeaderWriting, AddressWriting}
 use Rattle.wire.specs.declared.varint.Written.the-variants as written
-use Rattle.wire.specs.Units.{IsRequestStream}
-use Rattle.wire.specs.Varint.{encode}
-use Rattle.wire.specs.Writing.{Writing, refuses, writeAt}
-use Rattle.wire.proofs.Parts.{both, parted}
-use Rattle.streams.specs.declared.record.StreamRecord.{StreamRecord}
-use Rattle.streams.specs.declared.table.Found.the-variants.{At}
-use Rattle.streams.specs.Records.{blank, sendOpen, hasSemantics}
-use Rattle.streams.specs.Words.{GoodTable, InTable, Any}
-use Rattle.streams.specs.Tables.{Table, isBad, find, entryOf}
-use Rattle.streams.proofs.Tabled.{at-place}
-use Rattle.capsule.proofs.Planning.{zero-one}
-use Rattle.datagram.specs.declared.write.Sending.{Sending}
-use Rattle.datagram.specs.declared.write.Sending.the-variants as sending
-use Rattle.datagram.specs.Judging.{quarter}
-use Rattle.datagram.specs.Sending.{capsuleHeader, capsuleBytes, frameBytes, agreed, sendingRecord, sendingEntry, sendingOf, putCapsule, putFrame, putCapsuleHeader, putFrameHeader, capsuleWritten, frameWritten, frameHeaderWritten, writeCapsule, writeFrame, writeFrameHeader}
-use Rattle.addresses.specs.Addresses.{assign, request, route, allOf, wellFormed}
-use Rattle.address_writer.specs.Rows.{isWhole, entriesIn}
-use Rattle.address_writer.specs.Claims.{AddressCapsule, addressAssign, addressRequest, routeAdvertisement, LargeId, hasLargeId, typeOf, valueOf, writeOf}
-use Rattle.address_writer.specs.Writer.{capsuleOf, idFits, writeValue, writeAddresses, writeRoutes}
-use Rattle.address_writer.proofs.Counting.{whole-exactly}
-use Rattle.address_writer.proofs.Conditions.{large-id-exactly}
-use Rattle.refusal_orders.specs.Orders.{TooShort}
-use Rattle.refusal_orders.specs.Claims.{WritingRefuses, CapsuleWriting, FrameWriting, FrameHeaderWriting, DatagramWriting, DatagramHeaderWriting, AddressWriting}
+use Rattle.send_rights.specs.declared.rights.Sending.the-variants as sending
 use Rattle.refusal_orders.proofs.Tables.{asked, present}
 
 abbrev writes : Writing → ℕ → Type 0

@@ -19,18 +19,18 @@ use Rattle.capsule.specs.Calls.{Lent}
 use Rattle.capsule.specs.Reader.{openOf, feedOf, closeOf}
 use Rattle.look.specs.declared.Looked.the-variants as looked
 use Rattle.look.specs.Looking.{lookOf}
-use Rattle.listing.specs.declared.Listed.the-variants as listed
-use Rattle.listing.specs.Listing.{listingOf}
-use Rattle.http.specs.declared.translation.Translation.the-variants as translation
-use Rattle.http.specs.Translation.{translated}
-use Rattle.streams.specs.declared.record.Side.{Side}
-use Rattle.streams.specs.declared.table.Opening.the-variants as opening
-use Rattle.streams.specs.declared.table.Closing.the-variants as closing
-use Rattle.streams.specs.declared.table.Standing.the-variants as standing
-use Rattle.streams.specs.Tables.{Table, openingOf, closingOf, standingOf}
-use Rattle.datagram.specs.declared.judge.Judged.the-variants as judged
-use Rattle.datagram.specs.Judging.{judgedOf}
-use Rattle.datagram.specs.Sending.{writeCapsule, writeFrame, writeFrameHeader, putCapsule, putCapsuleHeader}
+use Rattle.one_shot_listing.specs.declared.Listed.the-variants as listed
+use Rattle.one_shot_listing.specs.Listing.{listingOf}
+use Rattle.http_errors.specs.declared.translation.Translation.the-variants as translation
+use Rattle.http_errors.specs.Translation.{translated}
+use Rattle.stream_records.specs.declared.record.Side.{Side}
+use Rattle.stream_records.specs.declared.answers.StreamOpened.the-variants as opening
+use Rattle.stream_records.specs.declared.answers.SideClosed.the-variants as closing
+use Rattle.stream_records.specs.declared.answers.Standing.the-variants as standing
+use Rattle.stream_records.specs.Tables.{Table, openingOf, closingOf, standingOf}
+use Rattle.judging.specs.declared.judge.Judged.the-variants as judged
+use Rattle.judging.specs.Judging.{judgedOf}
+use Rattle.sending.specs.Sending.{writeCapsule, writeFrame, writeFrameHeader, putCapsule, putCapsuleHeader}
 use Rattle.address_writer.specs.Claims.{AddressCapsule, writeOf}
 use Rattle.refusal_orders.specs.Orders as order
 

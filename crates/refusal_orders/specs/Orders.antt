@@ -12,9 +12,9 @@ use Rattle.opening.specs.declared.Role.the-variants.{Endpoint, Intermediary}
 use Rattle.capsule.specs.declared.reader.Reader.{Reader}
 use Rattle.capsule.specs.Calls.{Lent}
 use Rattle.capsule_laws.specs.Claims.{Makes}
-use Rattle.streams.specs.Records.{sendOpen, hasSemantics}
-use Rattle.streams.specs.Tables.{Table}
-use Rattle.streams.specs.Words.{UsedBelow, GoodTable, InTable, Any}
+use Rattle.stream_records.specs.Records.{sendOpen, hasSemantics}
+use Rattle.stream_records.specs.Tables.{Table}
+use Rattle.stream_records.specs.Words.{UsedBelow, GoodTable, InTable, Any}
 use Rattle.addresses.specs.Addresses.{wellFormed}
 use Rattle.address_writer.specs.Claims.{AddressCapsule, recordSize, LargeId, typeOf, valueOf}
 use Rattle.address_writer.specs.Writer.{capsuleOf}
@@ -88,7 +88,7 @@ streamNamed t id =
     ∷ (10, InTable t (id .0 / 4) Any → ⊥)
     ∷ []
 
--- judging: 15, 3, 6 (and then the first of eight rules: `rules` of datagram/specs/Judging.antt)
+-- judging: 15, 3, 6 (and then the first of eight rules: `rules` of judging/specs/Judging.antt)
 abbrev pub judging : Table → ℕ → ℕ → Order
 judging t streams limit =
     (15, GoodTable t → ⊥)

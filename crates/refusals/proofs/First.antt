@@ -1,8 +1,6 @@
 -- An answer that goes through its list of refusals one by one is refused by the first that holds. Assumes nothing.
 use Rattle.walks.proofs.Words.{ℕ, _≤_, _<_, arith, _≡_, refl, sym, ap, Bool, true, false, cond, _↔_, inl, inr, [], _∷_, leb, ltb, leb-true, leb-false, ltb-true, ltb-false}
-use Rattle.refusals.specs.declared.Refusal.{Refusal}
-use Rattle.refusals.specs.Numbers.{refusal}
-use Rattle.refusals.specs.First.{Order, Refuses}
+use Rattle.refusals.specs.{declared.Refusal.Refusal, Numbers.refusal, First.Order, First.Refuses}
 
 -- ---- tests and conditions
 

@@ -1,12 +1,15 @@
 // Reads two streams in place, each cut in two at every byte: each cut gives the same reports.
-use capsule::reader::Fed;
+ghost use mathlib.Core.Path.{_≡_};
+ghost use Rattle.capsule.specs.Calls.{lent};
+ghost use Rattle.capsule.specs.Reader.{feeding, feedOf, closing, closeOf};
+ghost use Rattle.host.specs.Connections.{SameBeside};
+use capsule::reader::CloseAnswer;
+use capsule::reader::FeedAnswer;
 use capsule::reader::Opened;
 use capsule::reader::Reader;
 use host::reader::Connection;
-use host::reader::close_by_value;
-use host::reader::close_connection_by_value;
-use host::reader::feed_by_value;
-use host::reader::feed_connection_by_value;
+use host::reader::close_connection;
+use host::reader::feed_connection;
 use opening::Role;
 use show::number;
 use show::word;
@@ -15,33 +18,91 @@ use show_reader::ending;
 use show_reader::feeding;
 use show_reader::refused;
 
+// A connection after a feeding and, of that, after a close, with both answers.
+struct Served {
+    connection: Connection,
+    answer: FeedAnswer,
+    closed: Connection,
+    ending: CloseAnswer,
+}
+
+// Feeds a connection and then closes it, both in place: callers of this hold no reference to a record.
+fn serve(
+    connection: Connection,
+    piece: &[u8],
+    gathering: &mut [u8],
+    addresses: &mut [u8],
+    output: &mut [u8],
+) -> Served
+    ensures { λ s. ⌜ (feeding (s .connection .reader) (s .answer) (lent (now (gathering .exit)) (now (addresses .exit)) (now (output .exit))) ≡ feedOf (connection .reader) (now (piece .entry)) (lent (now (gathering .entry)) (now (addresses .entry)) (now (output .entry))))
+        × SameBeside connection (s .connection) × (closing (s .closed .reader) (s .ending) ≡ closeOf (s .connection .reader)) × SameBeside (s .connection) (s .closed) ⌝ }
+{
+    let mut own = connection;
+    let answer = feed_connection(&mut own, piece, gathering, addresses, output);
+    let fed = own;
+    let ending = close_connection(&mut own);
+    Served {
+        connection: fed,
+        answer: answer,
+        closed: own,
+        ending: ending,
+    }
+}
+
 // One feeding, shown.
-fn feed(reader: Reader, piece: &[u8], gathering: &mut [u8], addresses: &mut [u8]) -> Fed {
+fn feed(
+    connection: Connection,
+    piece: &[u8],
+    gathering: &mut [u8],
+    addresses: &mut [u8],
+) -> Served {
     let mut output = [0u8; 0];
-    let fed = feed_by_value(reader, piece, gathering, addresses, &mut output);
-    let answer = fed.answer;
+    let served = serve(connection, piece, gathering, addresses, &mut output);
+    let answer = served.answer;
     feeding(answer, gathering, addresses, &output, b" ");
-    fed
+    served
 }
 
 // Feeds a piece until it is used up. The two buffers for values are the same in every feeding.
-fn read(reader: Reader, piece: &[u8], gathering: &mut [u8], addresses: &mut [u8]) -> Reader {
-    let mut r = reader;
+fn read(
+    connection: Connection,
+    piece: &[u8],
+    gathering: &mut [u8],
+    addresses: &mut [u8],
+) -> Connection {
+    let mut c = connection;
     let mut at = 0;
     while at < piece.len() {
-        let fed = feed(r, &piece[at..], gathering, addresses);
-        r = fed.reader;
-        let answer = fed.answer;
+        let served = feed(c, &piece[at..], gathering, addresses);
+        c = served.connection;
+        let answer = served.answer;
         let n = consumed(answer);
         if n == 0 {
-            return r;
+            return c;
         }
         if n > piece.len() - at {
-            return r;
+            return c;
         }
         at += n;
     }
-    r
+    c
+}
+
+// A close, shown: an empty piece before it changes nothing.
+fn close(connection: Connection, gathering: &mut [u8], addresses: &mut [u8]) {
+    let mut output = [0u8; 0];
+    let served = serve(connection, b"", gathering, addresses, &mut output);
+    let answer = served.ending;
+    word(b" ");
+    ending(answer);
+}
+
+fn connected(reader: Reader) -> Connection {
+    Connection {
+        id: 7,
+        reader: reader,
+        deadline: 30,
+    }
 }
 
 // Two pieces, read by an endpoint that opted in or did not, and a clean close.
@@ -54,12 +115,9 @@ fn read_two(opt_in: bool, first: &[u8], second: &[u8], addresses: &mut [u8]) {
         }
         Opened::Ready(reader) => {
             let mut gathering = [0u8; 1200];
-            let r = read(reader, first, &mut gathering, addresses);
-            let s = read(r, second, &mut gathering, addresses);
-            let closed = close_by_value(s);
-            let answer = closed.answer;
-            word(b" ");
-            ending(answer);
+            let c = read(connected(reader), first, &mut gathering, addresses);
+            let d = read(c, second, &mut gathering, addresses);
+            close(d, &mut gathering, addresses);
         }
     }
 }
@@ -96,31 +154,15 @@ fn in_a_record(piece: &[u8]) {
             refused(why);
         }
         Opened::Ready(reader) => {
-            let connection = Connection {
-                id: 7,
-                reader: reader,
-                deadline: 30,
-            };
             let mut gathering = [0u8; 1200];
             let mut addresses = [0u8; 1024];
-            let mut output = [0u8; 0];
-            let fed = feed_connection_by_value(
-                connection,
-                piece,
-                &mut gathering,
-                &mut addresses,
-                &mut output,
-            );
-            let fed_answer = fed.answer;
-            feeding(fed_answer, &gathering, &addresses, &output, b" ");
-            let fed_connection = fed.connection;
-            let closed = close_connection_by_value(fed_connection);
-            let last = closed.connection;
+            let served = feed(connected(reader), piece, &mut gathering, &mut addresses);
+            let last = served.closed;
             word(b" id ");
             number(last.id);
             word(b" deadline ");
             number(last.deadline);
-            let answer = closed.answer;
+            let answer = served.ending;
             word(b" ");
             ending(answer);
         }

@@ -2,9 +2,9 @@
 ghost use mathlib.Core.Path.{_≡_};
 ghost use Rattle.show_reader.specs.Consumed.{consumedIn};
 use capsule::reader::CloseAnswer;
-use capsule::reader::Ended;
 use capsule::reader::FeedAnswer;
 use opening::Report;
+use planning::Ended;
 use refusals::Refusal;
 use show::first;
 use show::number;
@@ -15,41 +15,45 @@ pub fn refused(why: Refusal) {
     number(why.0 as u64);
 }
 
-// What became of a capsule that is not DATAGRAM, its type and its length.
-fn other(became: &[u8], ctype: u64, length: u64) {
-    word(became);
-    number(ctype);
-    word(b" ");
-    number(length);
-}
-
 // A report. A delivered payload stands at the front of the gathering buffer, a delivered address value at the front of the second one.
 pub fn report(r: Report, gathering: &[u8], addresses: &[u8]) {
     match r {
-        Report::Delivered(n) => {
+        Report::Delivered { length: n } => {
             word(b"delivered ");
             number(n);
             word(b" (");
             first(gathering, n as usize);
             word(b")");
         }
-        Report::Dropped(n) => {
+        Report::Dropped { length: n } => {
             word(b"dropped ");
             number(n);
         }
-        Report::Skipped(t, n) => {
+        Report::Skipped {
+            ctype: t,
+            length: n,
+        } => {
             other(b"skipped ", t, n);
         }
-        Report::Passed(t, n) => {
+        Report::Passed {
+            ctype: t,
+            length: n,
+        } => {
             other(b"passed ", t, n);
         }
-        Report::AddressDelivered(t, n) => {
+        Report::AddressDelivered {
+            ctype: t,
+            length: n,
+        } => {
             other(b"address ", t, n);
             word(b" (");
             first(addresses, n as usize);
             word(b")");
         }
-        Report::Malformed(t, n) => {
+        Report::Malformed {
+            ctype: t,
+            length: n,
+        } => {
             other(b"malformed ", t, n);
         }
     }
@@ -115,4 +119,12 @@ pub fn consumed(answer: FeedAnswer) -> usize
             ended: _,
         } => n,
     }
+}
+
+// What became of a capsule that is not DATAGRAM, its type and its length.
+fn other(became: &[u8], ctype: u64, length: u64) {
+    word(became);
+    number(ctype);
+    word(b" ");
+    number(length);
 }

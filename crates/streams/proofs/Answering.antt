@@ -12,24 +12,16 @@ use Rattle.walks.proofs.Walk.{URA, fullShare, Ty, Name, Fn, Opd, Body, named, p
 use prog.Routine.{Env as Routines}
 use denote.Struct.Laws as LL
 use denote.Enum.Laws as EL
-use Rattle.streams.specs.declared.record.StreamRecord.{StreamRecord}
-use Rattle.streams.proofs.record.StreamRecord as R
-use Rattle.wire.specs.declared.units.StreamId.{StreamId}
-use Rattle.wire.specs.declared.units.Quarter.{Quarter}
+use Rattle.streams.proofs.Terms.{StreamRecord, StreamId, Quarter, Lookup, lookupOf, sought, Fact, Ensures, calls-ensuring, Param, Fitting, datum, shared, taking, slots, values, passing, OwedPassing, ends-owning, meets-passing, takes-last}
+use Rattle.stream_records.proofs.record.StreamRecord as R
 use Rattle.wire.proofs.units.Quarter as Q
 use Rattle.wire.proofs.units.Quarter.Laws as Q′
 use Rattle.wire.proofs.units.StreamId as N
 use Rattle.wire.proofs.units.StreamId.Laws as N′
-use Rattle.streams.specs.declared.table.Lookup.{Lookup}
-use Rattle.streams.specs.Tables.{lookupOf, sought}
-use Rattle.streams.proofs.table.Lookup as L
-use Rattle.streams.proofs.table.Lookup.Laws as L′
-use Rattle.streams.proofs.table.sought.Symbol.{name as #sought}
-use Rattle.streams.proofs.table.look_up.Symbol.{name as #look-up}
-use Rattle.walks.proofs.Calling.{Fact, Ensures, calls-ensuring}
-use Rattle.streams.proofs.Querying.{rowsAt, looking, LookedUp, looks-up}
-use Rattle.walks.proofs.Passing.{Param, Fitting, datum, shared, taking, slots, values, passing, OwedPassing, ends-owning, meets-passing, takes-last}
-use Rattle.streams.proofs.Elements.{rowsTy, at-local}
+use Rattle.stream_records.proofs.answers.Lookup as L
+use Rattle.stream_records.proofs.answers.Lookup.Laws as L′
+use Rattle.stream_plans.proofs.plan.sought.Symbol.{name as #sought}
+use Rattle.streams.proofs.{table.look_up.Symbol.name as #look-up, Querying.rowsAt, Querying.looking, Querying.LookedUp, Querying.looks-up, Elements.rowsTy, Elements.at-local}
 
 abbrev pub identifier : {n : ℕ} → Param n
 identifier = datum N.the-row (LL.vals N.the-type N′.the-laws) (LL.tells N.the-type N′.the-laws) (λ M 𝓤 H A W. LL.lawful N.the-type N′.the-laws 𝓤 H A W)

@@ -5,18 +5,12 @@ use Rattle.walks.proofs.Words.{_≡_, refl, sym, ap, subst, _∙_, ℕ, _<_, _�
 use Rattle.walks.proofs.Walk.{URA, fullShare, Name, Sym, Fn, Ty, named, erased, imm, mut, w64, tyInt, tyUnit, tyRef, tyStruct, tcons, tnil, deref, field, local, valueLocal, place, copy, rvOpd, addrOf, aggregate, assign, call, seq, return, Val, vint, vstruct, vcons, vnil, flft, ftrue, fat, Model, Heap, Closed, Atoms, GhostRules, Running, givenOf, tables, Given, ‵, _⊛_, _$_, !, move, drop, rewrite, recast, split, join, fsplit, fjoin, look, init, stop, hop, fld, from, load, of-opd, addr, and-then, no-more, assigns, land, returns, enter, alloc1, alloc0, params1, pass1, pass0, free0, agg, whole, sub, look-in, lft-new, lft-end, RattleType, pureI, usize, unit, uint-makes, nothing-lawful, Is, Tells, Makes, Lawful, Typed, shows, pointee, now, sliceTy, MutSlice, at-slice, slice-vals, Slot, plain, only, owned, peeks, Triple}
 use prog.Routine.{Env}
 use denote.Struct.Laws as LL
-use Rattle.wire.specs.declared.units.StreamId.{StreamId}
+use Rattle.streams.proofs.Terms.{StreamId, StreamRecord, nowhere, Fact, Ensures, Param, datum, changed, slots, values, passing, clears, ends-owning, meets-passing, lends-to-read, read-ends}
 use Rattle.wire.proofs.units.StreamId as N
 use Rattle.wire.proofs.units.StreamId.Laws as N′
-use Rattle.streams.specs.declared.record.StreamRecord.{StreamRecord}
-use Rattle.streams.specs.Code.{nowhere}
-use Rattle.streams.proofs.record.StreamRecord as R
-use Rattle.streams.proofs.record.StreamRecord.Laws as R′
-use Rattle.walks.proofs.Calling.{Fact, Ensures}
-use Rattle.walks.proofs.Passing.{Param, datum, changed, slots, values, passing, clears, ends-owning, meets-passing}
-use Rattle.walks.proofs.Shared.{lends-to-read, read-ends}
-use Rattle.streams.proofs.Querying.{read, lent, querying, rowsAt, queries, queries-data}
-use Rattle.streams.proofs.Answering.{identifier}
+use Rattle.stream_records.proofs.record.StreamRecord as R
+use Rattle.stream_records.proofs.record.StreamRecord.Laws as R′
+use Rattle.streams.proofs.{Querying.read, Querying.lent, Querying.querying, Querying.rowsAt, Querying.queries, Querying.queries-data, Answering.identifier}
 
 abbrev kept-data : List (Slot 1)
 kept-data = plain (λ _. usize) ∷ plain (λ _. R.the-row) ∷ []

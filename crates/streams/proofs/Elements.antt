@@ -9,14 +9,16 @@ use mir.Syntax.{unsigned, tyPtr, Step as PStep, int, op2}
 use types.Run.{Walks}
 use denote.Index.{row}
 use denote.Struct.Laws as LL
-use Rattle.streams.specs.declared.record.StreamRecord.{StreamRecord}
-use Rattle.streams.specs.Records.{blank}
-use Rattle.streams.proofs.record.StreamRecord as R
-use Rattle.streams.proofs.record.StreamRecord.Laws as R′
+use Rattle.streams.proofs.Terms.{StreamRecord, blank}
+use Rattle.stream_records.proofs.record.StreamRecord as R
+use Rattle.stream_records.proofs.record.StreamRecord.Laws as R′
 use Rattle.streams.proofs.Words.{Fits, offset-fits}
 
 abbrev pub rowsTy : Ty
 rowsTy = sliceTy (tyRef (named 0) imm (pointee (R.the-row .written)))
+
+abbrev pub word : Ty
+word = tyInt w64
 
 abbrev pub rowsVal : ℕ → ℕ → List StreamRecord → Val
 rowsVal b o ys = sliceVal (b, o) (length ys)

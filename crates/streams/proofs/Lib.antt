@@ -1,19 +1,9 @@
-pub mod Flags
-pub mod Places
-pub mod Goodness
-pub mod Tabled
-pub mod Decisions
-pub mod Openings
-pub mod Closings
-pub mod Standings
-pub mod Buckets
-pub mod Blanks
-pub mod Surveying
-pub mod Cases
+mod Terms
 pub mod Words
 pub mod Elements
 pub mod Callees
 pub mod Lowest
 pub mod Querying
+pub mod Reading
 pub mod Answering
 pub mod Changing

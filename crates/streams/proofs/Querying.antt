@@ -6,15 +6,11 @@
 use Rattle.walks.proofs.Words.{_≡_, refl, List, [], _∷_, length}
 use Rattle.walks.proofs.Walk.{URA, Name, Opd, Place, Body, named, seq, call, Val, Lft, Share, flft, Heap, Env, Calls, Loops, Atoms, Given, Item, Post, Seq, runs, lands, ‵, raw, _$_, move, drop, use0, split, join, fsplit, fjoin, Opds, FmC, left, yes, Is, Ises, Are, Makess, owns-make, RattleType, Denots, Valss, flat, owns, RefT, now, Slot, mutSliceOf, plain, shrSliceOf, typesAt, ShrSlice, sliceVal, slice-vals, nothing, Ended, Lasts, atExit, all, lastsOf, Triple}
 use denote.Struct.Laws as LL
-use Rattle.wire.specs.declared.units.Quarter.{Quarter}
+use Rattle.streams.proofs.Terms.{Quarter, StreamRecord, Lookup, lookupOf, Fact, Ensures, calls-ensuring}
 use Rattle.wire.proofs.units.Quarter as Q
 use Rattle.wire.proofs.units.Quarter.Laws as Q′
-use Rattle.streams.specs.declared.record.StreamRecord.{StreamRecord}
-use Rattle.streams.specs.declared.table.Lookup.{Lookup}
-use Rattle.streams.specs.Tables.{lookupOf}
-use Rattle.streams.proofs.record.StreamRecord as R
-use Rattle.streams.proofs.table.Lookup as L
-use Rattle.walks.proofs.Calling.{Fact, Ensures, calls-ensuring}
+use Rattle.stream_records.proofs.record.StreamRecord as R
+use Rattle.stream_records.proofs.answers.Lookup as L
 
 -- the machine value of a slice of records
 abbrev pub rowsAt : RefT (List StreamRecord) → Val

@@ -2,9 +2,9 @@
 use Rattle.walks.proofs.Words.{ℕ, _<_, _*_, _^_, arith, [], _∷_}
 use denote.Laws.{Is}
 use denote.Struct.Laws as LL
-use Rattle.streams.specs.declared.record.StreamRecord.{StreamRecord}
-use Rattle.streams.proofs.record.StreamRecord as R
-use Rattle.streams.proofs.record.StreamRecord.Laws as R′
+use Rattle.streams.proofs.Terms.{StreamRecord}
+use Rattle.stream_records.proofs.record.StreamRecord as R
+use Rattle.stream_records.proofs.record.StreamRecord.Laws as R′
 use Rattle.wire.proofs.units.Quarter as Q
 use Rattle.wire.proofs.units.Quarter.Laws as Q′
 

@@ -2,58 +2,28 @@
 ghost use mathlib.Core.Path.{_≡_};
 ghost use Prim.Native.Nat.{_≤_};
 ghost use lib.ListN.{length, getD, set, take, drop};
-ghost use Rattle.streams.specs.Records.{blank};
-ghost use Rattle.streams.specs.Tables.{standsIn, lowestFree, lookupOf, sought, openingOf, tableOpened, closingOf, tableClosed, standingOf};
-ghost use Rattle.streams.specs.Code.{AllBlank, surveyOf, openingPlanOf, closingPlanOf};
-use crate::plan;
-use crate::plan::ClosingPlan;
-use crate::plan::OpeningPlan;
-use crate::record::Side;
-use crate::record::StreamRecord;
-use crate::survey;
-use crate::survey::Survey;
-use refusals::Refusal;
+ghost use Rattle.stream_records.specs.Records.{blank};
+ghost use Rattle.stream_records.specs.Tables.{standsIn, lowestFree, lookupOf, sought, openingOf, tableOpened, closingOf, tableClosed, standingOf};
+ghost use Rattle.stream_plans.specs.Code.{openingPlanOf, closingPlanOf};
+ghost use Rattle.stream_survey.specs.Code.{AllBlank, surveyOf};
+use stream_plans::plan;
+use stream_plans::plan::ClosingPlan;
+use stream_plans::plan::OpeningPlan;
+use stream_plans::plan::sought;
+use stream_records::answers::Found;
+use stream_records::answers::Lookup;
+use stream_records::answers::SideClosed;
+use stream_records::answers::Standing;
+use stream_records::answers::StreamOpened;
+use stream_records::record::Side;
+use stream_records::record::StreamRecord;
+use stream_survey::survey;
+use stream_survey::survey::Survey;
 use wire::units::Quarter;
-use wire::units::QuarterOf;
 use wire::units::StreamId;
 
-// The place that opening a stream takes.
-pub enum Opening {
-    Refused(Refusal),
-    Opened(usize),
-}
-
-// The place of the stream, and whether it became the blank.
-pub enum Closing {
-    Refused(Refusal),
-    Closed { place: usize, freed: bool },
-}
-
-// The place of a stream.
-pub enum Standing {
-    Refused(Refusal),
-    At(usize),
-}
-
-// A place, if there is one.
-pub enum Found {
-    Nothing,
-    At(usize),
-}
-
-// What a good table has of a quarter.
-pub enum Entry {
-    Absent,
-    Present { place: usize, record: StreamRecord },
-}
-
-pub enum Lookup {
-    BadTable,
-    Good(Entry),
-}
-
 // Opens a stream at the lowest free place, both sides open.
-pub fn open_stream(rows: &mut [StreamRecord], id: StreamId, semantics: bool) -> Opening
+pub fn open_stream(rows: &mut [StreamRecord], id: StreamId, semantics: bool) -> StreamOpened
     ensures { λ r. ⌜ (r ≡ openingOf (now (rows .entry)) id) × (now (rows .exit) ≡ tableOpened (now (rows .entry)) id semantics r) ⌝ }
 {
     let plan = plan_opening(rows, id, semantics);
@@ -62,7 +32,7 @@ pub fn open_stream(rows: &mut [StreamRecord], id: StreamId, semantics: bool) -> 
 }
 
 // Closes a side of a stream.
-pub fn close_side(rows: &mut [StreamRecord], id: StreamId, side: Side) -> Closing
+pub fn close_side(rows: &mut [StreamRecord], id: StreamId, side: Side) -> SideClosed
     ensures { λ r. ⌜ (r ≡ closingOf (now (rows .entry)) id side) × (now (rows .exit) ≡ tableClosed (now (rows .entry)) side r) ⌝ }
 {
     let plan = plan_closing(rows, id, side);
@@ -87,6 +57,22 @@ pub fn look_up(rows: &[StreamRecord], quarter: Quarter) -> Lookup
     survey::lookup(survey, record)
 }
 
+fn plan_opening(rows: &[StreamRecord], id: StreamId, semantics: bool) -> OpeningPlan
+    ensures { λ r. ⌜ r ≡ openingPlanOf (lookupOf (sought id) (now (rows .entry))) (lowestFree (now (rows .entry))) id semantics ⌝ }
+{
+    let lookup = look_up(rows, sought(id));
+    plan::opening(lookup, lowest_free(rows), id, semantics)
+}
+
+// Stores a record at a place, if the row has it.
+fn put(rows: &mut [StreamRecord], place: usize, kept: StreamRecord)
+    ensures { λ _. ⌜ now (rows .exit) ≡ set (now (rows .entry)) place kept ⌝ }
+{
+    if place < rows.len() {
+        rows[place] = kept;
+    }
+}
+
 // The lowest free place.
 fn lowest_free(rows: &[StreamRecord]) -> Found
     ensures { λ r. ⌜ r ≡ lowestFree (now (rows .entry)) ⌝ }
@@ -106,46 +92,10 @@ fn lowest_free(rows: &[StreamRecord]) -> Found
     place
 }
 
-// The quarter to look for: 0 where the ID is no request stream's.
-pub fn sought(id: StreamId) -> Quarter
-    ensures { λ r. ⌜ r ≡ record { 0 = sought id } ⌝ }
-{
-    match id.quarter() {
-        QuarterOf::NotRequestStream => Quarter(0),
-        QuarterOf::Is(quarter) => quarter,
-    }
-}
-
-fn plan_opening(rows: &[StreamRecord], id: StreamId, semantics: bool) -> OpeningPlan
-    ensures { λ r. ⌜ r ≡ openingPlanOf (lookupOf (sought id) (now (rows .entry))) (lowestFree (now (rows .entry))) id semantics ⌝ }
-{
-    let lookup = look_up(rows, sought(id));
-    plan::opening(lookup, lowest_free(rows), id, semantics)
-}
-
 fn plan_closing(rows: &[StreamRecord], id: StreamId, side: Side) -> ClosingPlan
     ensures { λ r. ⌜ r ≡ closingPlanOf (lookupOf (sought id) (now (rows .entry))) id side ⌝ }
 {
     plan::closing(look_up(rows, sought(id)), id, side)
-}
-
-// Stores a record at a place, if the row has it.
-fn put(rows: &mut [StreamRecord], place: usize, kept: StreamRecord)
-    ensures { λ _. ⌜ now (rows .exit) ≡ set (now (rows .entry)) place kept ⌝ }
-{
-    if place < rows.len() {
-        rows[place] = kept;
-    }
-}
-
-// The record at a place, and the blank where there is none.
-fn record_at(rows: &[StreamRecord], i: usize) -> StreamRecord
-    ensures { λ r. ⌜ r ≡ getD (now (rows .entry)) i blank ⌝ }
-{
-    if i < rows.len() {
-        return rows[i];
-    }
-    StreamRecord::BLANK
 }
 
 // From the first record to the last. Each used one marks its quarter's bucket, and the records before it are searched for its quarter only if
@@ -172,6 +122,16 @@ fn look_through(rows: &[StreamRecord], quarter: Quarter, seen: &mut [u8]) -> Sur
         i += 1;
     }
     known
+}
+
+// The record at a place, and the blank where there is none.
+fn record_at(rows: &[StreamRecord], i: usize) -> StreamRecord
+    ensures { λ r. ⌜ r ≡ getD (now (rows .entry)) i blank ⌝ }
+{
+    if i < rows.len() {
+        return rows[i];
+    }
+    StreamRecord::BLANK
 }
 
 // How many of the first n records there are up to the last that is not the blank. Most tables end with many blanks.

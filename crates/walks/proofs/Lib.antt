@@ -14,3 +14,4 @@ pub mod ByValue
 pub mod Home
 pub mod Shared
 pub mod Zeros
+pub mod Impossible

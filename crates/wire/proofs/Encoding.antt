@@ -1,14 +1,7 @@
 -- Writing a varint. Assumes nothing.
 use Rattle.walks.proofs.Words.{_≡_, refl, sym, ap, _∙_, ℕ, zero, suc, _+_, _-_, _*_, _/_, _%_, _^_, _≤_, _<_, pow-succ', div-div-eq-div-mul, mod-lt, arith, List, [], _∷_, _++_, length, take, length-append, take-at, sets, digits-lt, digits-div, digits-mod, pow-add, pow-pos, pow-mono, le-leb, lt-leb}
-use Rattle.wire.specs.declared.varint.Varint.the-variants.{Whole}
-use Rattle.wire.specs.Bytes.{num, bytesOf}
-use Rattle.wire.specs.Varint.{largest, sizeOf, valueOf, readVarint, encodeAs, leastWidth, leastSize, encode}
-use Rattle.refusals.specs.Numbers.{outputTooShort, numberTooLarge}
-use Rattle.wire.specs.declared.varint.Written.the-variants.{Refused, Wrote}
-use Rattle.wire.specs.Writing.{writing, refuses, writeAt, writeVarint}
-use Rattle.wire.specs.Claims.{EveryFormRead, ReadBack, Shortest}
-use Rattle.wire.proofs.Numbers.{pow-256, length-bytesOf, num-bytesOf, bytesOf-first, bytesOf-halves}
-use Rattle.wire.proofs.Reading.{split, sizeOf-at, read-whole, read-less, no-whole-nil, whole-incomplete}
+use Rattle.wire.proofs.Terms.{Whole, num, bytesOf, largest, sizeOf, valueOf, readVarint, encodeAs, leastWidth, leastSize, encode, outputTooShort, numberTooLarge, Refused, Wrote, writing, refuses, writeAt, writeVarint, EveryFormRead, ReadBack, Shortest}
+use Rattle.wire.proofs.{Numbers.pow-256, Numbers.length-bytesOf, Numbers.num-bytesOf, Numbers.bytesOf-first, Numbers.bytesOf-halves, Reading.split, Reading.sizeOf-at, Reading.read-whole, Reading.read-less, Reading.no-whole-nil, Reading.whole-incomplete}
 
 -- k + 1 bytes whose first one says so
 pub read-bytes : (k n : ℕ) → n < 256 ^ suc k → sizeOf (n / 256 ^ k) ≡ suc k → (r : List ℕ)
@@ -82,29 +75,21 @@ pub record Least (n w : ℕ) : Type 0 where
   pub fits : n ≤ 2 ^ 62 - 1 → n < 2 ^ (8 * 2 ^ w - 2)
   pub none : (v : ℕ) → v < w → 2 ^ (8 * 2 ^ v - 2) ≤ n
 
-below-3 : (n : ℕ) → 1073741823 < n → (v : ℕ) → v < 3 → 2 ^ (8 * 2 ^ v - 2) ≤ n
-below-3 n h zero l = omega arith
-below-3 n h (suc zero) l = omega arith
-below-3 n h (suc (suc zero)) l = omega arith
-below-3 n h (suc (suc (suc v))) l = absurd (let z : ⊥ = omega arith in z)
-
-below-2 : (n : ℕ) → 16383 < n → (v : ℕ) → v < 2 → 2 ^ (8 * 2 ^ v - 2) ≤ n
-below-2 n h zero l = omega arith
-below-2 n h (suc zero) l = omega arith
-below-2 n h (suc (suc v)) l = absurd (let z : ⊥ = omega arith in z)
-
-below-1 : (n : ℕ) → 63 < n → (v : ℕ) → v < 1 → 2 ^ (8 * 2 ^ v - 2) ≤ n
-below-1 n h zero l = omega arith
-below-1 n h (suc v) l = absurd (let z : ⊥ = omega arith in z)
+below : (n w : ℕ) → 2 ^ (8 * 2 ^ w - 2) ≤ n → (v : ℕ) → v < suc w → 2 ^ (8 * 2 ^ v - 2) ≤ n
+below n w h v l =
+    let a : v ≤ w = omega arith in
+    let b : 2 ^ v ≤ 2 ^ w = pow-mono a in
+    let c : 8 * 2 ^ v - 2 ≤ 8 * 2 ^ w - 2 = omega arith in
+    omega (arith, pow-mono c)
 
 pub least : (n : ℕ) → Least n (leastWidth n)
 least n = split n 63
     (λ h. rw (width-0 n h) (record { most = omega arith; fits = λ k. omega arith; none = λ v l. absurd (let z : ⊥ = omega arith in z) }))
     (λ g. split n 16383
-    (λ h. rw (width-1 n g h) (record { most = omega arith; fits = λ k. omega arith; none = below-1 n g }))
+    (λ h. rw (width-1 n g h) (record { most = omega arith; fits = λ k. omega arith; none = below n 0 (omega arith) }))
     (λ g. split n 1073741823
-    (λ h. rw (width-2 n g h) (record { most = omega arith; fits = λ k. omega arith; none = below-2 n g }))
-    (λ g. rw (width-3 n g) (record { most = omega arith; fits = λ k. omega arith; none = below-3 n g }))))
+    (λ h. rw (width-2 n g h) (record { most = omega arith; fits = λ k. omega arith; none = below n 1 (omega arith) }))
+    (λ g. rw (width-3 n g) (record { most = omega arith; fits = λ k. omega arith; none = below n 2 (omega arith) }))))
 
 pub length-encode : (n : ℕ) → length (encode n) ≡ leastSize n
 unfolding encode encodeAs leastSize

@@ -1,11 +1,9 @@
 -- Stream IDs and quarter stream IDs. Assumes nothing.
-use Rattle.walks.proofs.Words.{_≡_, refl, sym, ap, _∙_, ℕ, _-_, _*_, _/_, _%_, _^_, _≤_, _<_, arith, Bool, true, false, leb, eqb, le-leb, lt-leb, eq-eqb, ne-eqb, leb-true, leb-false, eqb-true, eqb-false}
-use Rattle.wire.specs.declared.units.StreamId.{StreamId}
-use Rattle.wire.specs.declared.units.Quarter.{Quarter}
+use Rattle.walks.proofs.Words.{_≡_, refl, sym, ap, _∙_, ℕ, _-_, _*_, _/_, _%_, _^_, _≤_, _<_, arith, Bool, true, false, eqb, le-leb, lt-leb, eq-eqb, ne-eqb, eqb-true, eqb-false}
+use Rattle.wire.proofs.Terms.{StreamId, Quarter, IsRequestStream, isRequest, largestQuarter, quarterOf, streamOf, RequestExactly, QuarterExactly, QuarterBounded}
 use Rattle.wire.specs.declared.units.QuarterOf.the-variants as quarter
 use Rattle.wire.specs.declared.units.StreamOf.the-variants as stream
-use Rattle.wire.specs.Units.{IsRequestStream, isRequest, largestQuarter, quarterOf, streamOf}
-use Rattle.wire.specs.Claims.{RequestExactly, QuarterExactly, QuarterBounded}
+use Rattle.wire.proofs.Reading.{split}
 
 -- ---- as the code tests
 
@@ -37,33 +35,27 @@ pub record Pair (id q : ℕ) : Type 0 where
   pub most : q ≤ 2 ^ 60 - 1
 
 quarter-pair : (id : StreamId) (q : Quarter) → quarterOf id ≡ quarter.Is q → Pair (id .0) (q .0)
-quarter-pair id q e = go (leb (id .0) (2 ^ 62 - 1)) refl (eqb (id .0 % 4) 0) refl
+quarter-pair id q e = split (id .0) (2 ^ 62 - 1) (λ m. go m (eqb (id .0 % 4) 0) refl) (λ m. no (quarter-large id m))
   where
     no : quarterOf id ≡ quarter.NotRequestStream → Pair (id .0) (q .0)
     no d = let z : _≡_ {A = ℕ} 0 1 = cc in absurd (let n : ⊥ = omega arith in n)
 
-    go : (a : Bool) → leb (id .0) (2 ^ 62 - 1) ≡ a → (b : Bool) → eqb (id .0 % 4) 0 ≡ b → Pair (id .0) (q .0)
-    go true x true y =
-        let m = leb-true (id .0) (2 ^ 62 - 1) x in
+    go : id .0 ≤ 2 ^ 62 - 1 → (b : Bool) → eqb (id .0 % 4) 0 ≡ b → Pair (id .0) (q .0)
+    go m true y =
         let d = eqb-true (id .0 % 4) 0 y in
         let isQ : record { 0 = id .0 / 4 } ≡ q = cc (quarter-is id m d) in
         let isN : id .0 / 4 ≡ q .0 = ap (λ (p : Quarter). p .0) isQ in
         record { four = omega arith; most = omega arith }
-    go true x false y = no (quarter-uneven id (leb-true (id .0) (2 ^ 62 - 1) x) (eqb-false (id .0 % 4) 0 y))
-    go false x true y = no (quarter-large id (leb-false (id .0) (2 ^ 62 - 1) x))
-    go false x false y = no (quarter-large id (leb-false (id .0) (2 ^ 62 - 1) x))
+    go m false y = no (quarter-uneven id m (eqb-false (id .0 % 4) 0 y))
 
 stream-pair : (id : StreamId) (q : Quarter) → streamOf q ≡ stream.Is id → Pair (id .0) (q .0)
 unfolding largestQuarter
-stream-pair id q e = go (leb (q .0) largestQuarter) refl
-  where
-    go : (a : Bool) → leb (q .0) largestQuarter ≡ a → Pair (id .0) (q .0)
-    go true x =
-        let m = leb-true (q .0) largestQuarter x in
-        let isI : record { 0 = q .0 * 4 } ≡ id = cc (stream-is q m) in
-        let isN : q .0 * 4 ≡ id .0 = ap (λ (i : StreamId). i .0) isI in
-        record { four = omega arith; most = omega arith }
-    go false x = let z : _≡_ {A = ℕ} 0 1 = cc (stream-large q (leb-false (q .0) largestQuarter x)) in absurd (let n : ⊥ = omega arith in n)
+stream-pair id q e = split (q .0) (2 ^ 60 - 1)
+    (λ m.
+    let isI : record { 0 = q .0 * 4 } ≡ id = cc (stream-is q m) in
+    let isN : q .0 * 4 ≡ id .0 = ap (λ (i : StreamId). i .0) isI in
+    record { four = omega arith; most = omega arith })
+    (λ m. let z : _≡_ {A = ℕ} 0 1 = cc (stream-large q m) in absurd (let n : ⊥ = omega arith in n))
 
 pair-quarter : (id : StreamId) (q : Quarter) → Pair (id .0) (q .0) → quarterOf id ≡ quarter.Is q
 pair-quarter id q p =
@@ -87,11 +79,7 @@ request-exactly id = (λ q. (to q, from q), (never, none))
     never e h = let z : _≡_ {A = ℕ} 0 1 = cc (quarter-is id (h .1) (h .0)) in omega arith
 
     none : (IsRequestStream (id .0) → ⊥) → quarterOf id ≡ quarter.NotRequestStream
-    none n = go (leb (id .0) (2 ^ 62 - 1)) refl
-      where
-        go : (a : Bool) → leb (id .0) (2 ^ 62 - 1) ≡ a → quarterOf id ≡ quarter.NotRequestStream
-        go true x = let l = leb-true (id .0) (2 ^ 62 - 1) x in quarter-uneven id l (λ d. n (d, l))
-        go false x = quarter-large id (leb-false (id .0) (2 ^ 62 - 1) x)
+    none n = split (id .0) (2 ^ 62 - 1) (λ l. quarter-uneven id l (λ d. n (d, l))) (quarter-large id)
 
 pub quarter-exactly : QuarterExactly
 quarter-exactly id q = (λ e. pair-stream id q (quarter-pair id q e), λ e. pair-quarter id q (stream-pair id q e))

@@ -1,11 +1,6 @@
 -- What a writer leaves. Assumes nothing.
 use Rattle.walks.proofs.Words.{_≡_, refl, sym, ℕ, _+_, arith, Bool, true, false, cond, List, length, leb}
-use Rattle.refusals.specs.declared.Refusal.{Refusal}
-use Rattle.refusals.specs.Numbers.{outputTooShort, numberTooLarge}
-use Rattle.wire.specs.declared.varint.Written.the-variants.{Refused, Wrote}
-use Rattle.wire.specs.Varint.{largest, encode}
-use Rattle.wire.specs.Writing.{Writing, refuses, writeAt, writeVarint}
-use Rattle.wire.specs.Claims.{Leaves, VarintLeaves}
+use Rattle.wire.proofs.Terms.{Refusal, outputTooShort, numberTooLarge, Refused, Wrote, largest, encode, Writing, refuses, writeAt, writeVarint, Leaves, VarintLeaves}
 
 no-both {ℓ} : {X : Type ℓ} {r : Refusal} {k : ℕ} → Refused r ≡ Wrote k → X
 no-both e = absurd (let m : _≡_ {A = ℕ} 0 1 = cc in let n : ⊥ = omega arith in n)

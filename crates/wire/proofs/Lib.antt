@@ -1,3 +1,4 @@
+mod Terms
 pub mod Numbers
 pub mod Reading
 pub mod Encoding

@@ -1,6 +1,6 @@
 -- Bytes and big-endian numbers. Assumes nothing.
 use Rattle.walks.proofs.Words.{_≡_, refl, sym, ap, _∙_, ℕ, zero, suc, _+_, _*_, _/_, _%_, _^_, _≤_, _<_, add-zero, div-div-eq-div-mul, pow-suc, pow-succ', div-one, mod-eq-of-lt, div-lt-iff-lt-mul, one-le-pow, add-one, arith, List, [], _∷_, _++_, length, getD, take, drop, set, length-drop, take-suc, drop-cons, drop-drop, take-add, length-take-le, sets, digits-div, digits-mod, mod-mul, pow-add, pow-mono, lit<}
-use Rattle.wire.specs.Bytes.{Bytes, numFrom, num, bytesOf}
+use Rattle.wire.proofs.Terms.{Bytes, numFrom, num, bytesOf}
 
 -- ---- bytes
 

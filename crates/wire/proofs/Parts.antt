@@ -1,15 +1,7 @@
 -- A varint of which a part has come. Assumes nothing.
 use Rattle.walks.proofs.Words.{_≡_, refl, sym, ap, _∙_, subst, ℕ, zero, suc, _+_, _-_, _*_, _/_, _^_, _≤_, _<_, pow-succ', div-lt-iff-lt-mul, arith, Bool, true, false, _&&_, List, [], _∷_, _++_, length, take, length-append, take-append-add, take-length, ltb, eqb, ltb-true, lt-ltb, ne-eqb, eqb-true}
-use Rattle.wire.specs.declared.varint.Varint.{Varint}
-use Rattle.wire.specs.declared.varint.Varint.the-variants.{Incomplete, Whole}
-use Rattle.wire.specs.declared.partial.Partial.{Partial}
-use Rattle.wire.specs.declared.partial.Taken.the-variants.{Impossible, More, Ends}
-use Rattle.wire.specs.Bytes.{Bytes, numFrom, num, bytesOf}
-use Rattle.wire.specs.Varint.{sizeOf, valueOf, readVarint}
-use Rattle.wire.specs.Partial.{partial, partialOf, heldBytes, starts, isPartial, takenOf, takeVarint}
-use Rattle.wire.specs.Claims.{GoesOn, OccursExactly, ImpossibleExactly}
-use Rattle.wire.proofs.Numbers.{pow-256, pow-256-pos, num-lt, num-first, length-bytesOf, bytesOf-bytes, bytesOf-num, num-bytesOf, bytesOf-first, numFrom-append}
-use Rattle.wire.proofs.Reading.{sizeOf-le, read-nil, read-whole, read-less, less-read}
+use Rattle.wire.proofs.Terms.{Varint, Incomplete, Whole, Partial, Impossible, More, Ends, Bytes, numFrom, num, bytesOf, sizeOf, valueOf, readVarint, partial, partialOf, heldBytes, starts, isPartial, takenOf, takeVarint, GoesOn, OccursExactly, ImpossibleExactly}
+use Rattle.wire.proofs.{Numbers.pow-256, Numbers.pow-256-pos, Numbers.num-lt, Numbers.num-first, Numbers.length-bytesOf, Numbers.bytesOf-bytes, Numbers.bytesOf-num, Numbers.num-bytesOf, Numbers.bytesOf-first, Numbers.numFrom-append, Reading.sizeOf-le, Reading.read-nil, Reading.read-whole, Reading.read-less, Reading.less-read}
 
 -- ---- tests joined
 
@@ -169,43 +161,30 @@ module _ (s : List ℕ) where
   joined-whole : (k raw m : ℕ) → starts (suc k) raw ≡ true → sizeOf (raw / 256 ^ k) ≡ suc k + m → m ≤ length s
       → readVarint (bytesOf (suc k) raw ++ s) ≡ Whole (valueOf (suc k + m) (numFrom raw (take m s))) (suc k + m)
   joined-whole k raw m e z l =
-      let f = started k raw e in
-      let isHeld = bytesOf-first k raw (f .fits) in
-      let len : length (bytesOf (suc k) raw) ≡ suc k = length-bytesOf (suc k) raw in
+      let isHeld = bytesOf-first k raw (started k raw e .fits) in
       let front : take (suc k + m) (bytesOf (suc k) raw ++ s) ≡ bytesOf (suc k) raw ++ take m s =
-      ap (λ (j : ℕ). take (j + m) (bytesOf (suc k) raw ++ s)) (sym len) ∙ take-append-add (bytesOf (suc k) raw) s m in
+      rw length-bytesOf at (take-append-add (bytesOf (suc k) raw) s m) in
       let front′ : take (suc k + m) (raw / 256 ^ k ∷ (bytesOf k raw ++ s)) ≡ bytesOf (suc k) raw ++ take m s =
       ap (λ (l : List ℕ). take (suc k + m) (l ++ s)) (sym isHeld) ∙ front in
       let fits : sizeOf (raw / 256 ^ k) ≤ length (raw / 256 ^ k ∷ (bytesOf k raw ++ s)) = omega (arith, length-append (bytesOf k raw) s, length-bytesOf k raw) in
       rw (isHeld, read-whole (raw / 256 ^ k) (bytesOf k raw ++ s) fits, z, front′, numFrom-held (suc k) raw (take m s) e)
 
-  go-part : (k raw : ℕ) → starts (suc k) raw ≡ true → suc k + length s < sizeOf (raw / 256 ^ k)
-      → More (partial (suc k + length s) (numFrom raw s)) ≡ takeVarint (partial (suc k) raw) s
-  unfolding takeVarint isPartial heldBytes takenOf partialOf
-  go-part k raw e l =
-      let len : length (bytesOf (suc k) raw ++ s) ≡ suc k + length s = omega (arith, length-append (bytesOf (suc k) raw) s, length-bytesOf (suc k) raw) in
-      rw (e, joined-less k raw e l, len, numFrom-held (suc k) raw s e)
-
-  go-whole : (k raw m : ℕ) → starts (suc k) raw ≡ true → sizeOf (raw / 256 ^ k) ≡ suc k + m → m ≤ length s
-      → Ends m (valueOf (suc k + m) (numFrom raw (take m s))) ≡ takeVarint (partial (suc k) raw) s
-  unfolding takeVarint isPartial heldBytes takenOf
-  go-whole k raw m e z l =
-      let d : suc k + m - suc k ≡ m = omega arith in
-      rw (e, joined-whole k raw m e z l, d)
-
   pub goes-part : (have raw : ℕ) → 0 < have → starts have raw ≡ true → have + length s < sizeOf (raw / 2 ^ (8 * (have - 1)))
       → More (partial (have + length s) (numFrom raw s)) ≡ takeVarint (partial have raw) s
+  unfolding takeVarint isPartial heldBytes takenOf partialOf
   goes-part zero raw h e l = absurd (let z : ⊥ = omega arith in z)
-  goes-part (suc k) raw h e l = go-part k raw e (rw (shift-first k raw) at l)
+  goes-part (suc k) raw h e l =
+      let len : length (bytesOf (suc k) raw ++ s) ≡ suc k + length s = omega (arith, length-append (bytesOf (suc k) raw) s, length-bytesOf (suc k) raw) in
+      rw (e, joined-less k raw e (rw (shift-first k raw) at l), len, numFrom-held (suc k) raw s e)
 
   pub goes-whole : (have raw size : ℕ) → 0 < have → starts have raw ≡ true → size ≡ sizeOf (raw / 2 ^ (8 * (have - 1))) → size - have ≤ length s
       → Ends (size - have) (valueOf size (numFrom raw (take (size - have) s))) ≡ takeVarint (partial have raw) s
+  unfolding takeVarint isPartial heldBytes takenOf
   goes-whole zero raw size h e z l = absurd (let z : ⊥ = omega arith in z)
   goes-whole (suc k) raw size h e z l =
-      let f = started k raw e in
       let isS : size ≡ sizeOf (raw / 256 ^ k) = rw (shift-first k raw) at z in
-      let d : size ≡ suc k + (size - suc k) = omega (arith, f .less) in
-      ap (λ (n : ℕ). Ends (size - suc k) (valueOf n (numFrom raw (take (size - suc k) s)))) d ∙ go-whole k raw (size - suc k) e (sym isS ∙ d) l
+      let d : suc k + (size - suc k) ≡ size = omega (arith, started k raw e .less) in
+      rw (e, joined-whole k raw (size - suc k) e (sym (d ∙ isS)) l, d)
 
 -- ---- from the first byte on
 

@@ -1,10 +1,6 @@
 -- Reading a varint. Assumes nothing.
 use Rattle.walks.proofs.Words.{_≡_, refl, sym, ap, _∙_, ℕ, zero, suc, _-_, _*_, _/_, _%_, _^_, _≤_, _<_, lt-of-not-le, mod-lt, mod-eq-of-lt, decLe, arith, List, [], _∷_, _++_, length, getD, take, length-append, take-append-le, take-take, length-take-le, pow-pos, pow-mono, pow-lt, le-leb, lt-leb}
-use Rattle.wire.specs.declared.varint.Varint.{Varint}
-use Rattle.wire.specs.declared.varint.Varint.the-variants.{Incomplete, Whole}
-use Rattle.wire.specs.Bytes.{Bytes, num, bytesOf}
-use Rattle.wire.specs.Varint.{largest, sizeOf, valueOf, readVarint}
-use Rattle.wire.specs.Claims.{IncompleteExactly, FirstBytesOnly, NeverAboveLargest}
+use Rattle.wire.proofs.Terms.{Varint, Incomplete, Whole, Bytes, num, bytesOf, largest, sizeOf, valueOf, readVarint, IncompleteExactly, FirstBytesOnly, NeverAboveLargest}
 use Rattle.wire.proofs.Numbers.{bytes-take, bytesOf-num, num-first, number-one}
 
 -- one order or the other

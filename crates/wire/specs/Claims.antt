@@ -10,7 +10,7 @@ use Rattle.refusals.specs.declared.Refusal.{Refusal}
 use Rattle.wire.specs.declared.varint.Varint.the-variants.{Incomplete, Whole}
 use Rattle.wire.specs.declared.varint.Written.the-variants.{Refused, Wrote}
 use Rattle.wire.specs.declared.partial.Partial.{Partial}
-use Rattle.wire.specs.declared.partial.Taken.the-variants.{Impossible}
+use Rattle.wire.specs.declared.partial.VarintTaken.the-variants.{Impossible}
 use Rattle.wire.specs.declared.units.StreamId.{StreamId}
 use Rattle.wire.specs.declared.units.Quarter.{Quarter}
 use Rattle.wire.specs.declared.units.QuarterOf.the-variants as quarter

@@ -7,8 +7,8 @@ use lib.Dec.{ltb, eqb}
 use Rattle.wire.specs.declared.varint.Varint.{Varint}
 use Rattle.wire.specs.declared.varint.Varint.the-variants.{Incomplete, Whole}
 use Rattle.wire.specs.declared.partial.Partial.{Partial}
-use Rattle.wire.specs.declared.partial.Taken.{Taken}
-use Rattle.wire.specs.declared.partial.Taken.the-variants.{Impossible, More, Ends}
+use Rattle.wire.specs.declared.partial.VarintTaken.{VarintTaken}
+use Rattle.wire.specs.declared.partial.VarintTaken.the-variants.{Impossible, More, Ends}
 use Rattle.wire.specs.Bytes.{num, bytesOf}
 use Rattle.wire.specs.Varint.{sizeOf, readVarint}
 
@@ -32,12 +32,12 @@ unfoldable pub isPartial : Partial → Bool
 isPartial p = starts (p .have) (p .raw)
 
 -- what reading at the part's bytes and those after them says of the bytes after them
-unfoldable pub takenOf : ℕ → List ℕ → Varint → Taken
+unfoldable pub takenOf : ℕ → List ℕ → Varint → VarintTaken
 takenOf have joined Incomplete = More (partialOf joined)
 takenOf have joined (Whole value size) = Ends (size - have) value
 
 -- a part that goes on by s
-unfoldable pub takeVarint : Partial → List ℕ → Taken
+unfoldable pub takeVarint : Partial → List ℕ → VarintTaken
 takeVarint p s =
     let joined = heldBytes p ++ s in
     cond (isPartial p) (takenOf (p .have) joined (readVarint joined)) Impossible

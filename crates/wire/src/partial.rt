@@ -18,27 +18,13 @@ pub struct Partial {
 }
 
 // What comes of a partial varint by more bytes.
-pub enum Taken {
+pub enum VarintTaken {
     // no varint has this part
     Impossible,
     // all bytes belong to it, and it is not whole
     More(Partial),
     // it ends with the byte at used - 1
     Ends { used: usize, value: u64 },
-}
-
-// The number that goes on from raw by the first count bytes of s.
-fn number_on(s: &[u8], have: u8, raw: u64, count: usize) -> u64
-    requires { ⌜ (have + count ≤ 8) × (raw < 256 ^ have) × (count ≤ length (now s)) ⌝ }
-    ensures { λ r. ⌜ r ≡ numFrom raw (take count (now (s .entry))) ⌝ }
-{
-    let mut n = raw;
-    let mut i: usize = 0;
-    while i < count {
-        n = n * 256 + wide(s[i]);
-        i += 1;
-    }
-    n
 }
 
 impl Partial {
@@ -64,37 +50,37 @@ impl Partial {
     }
 
     // What comes of it by the bytes of s.
-    pub fn take(self, s: &[u8]) -> Taken
+    pub fn take(self, s: &[u8]) -> VarintTaken
         ensures { λ r. ⌜ r ≡ takeVarint self (now (s .entry)) ⌝ }
     {
         let have = self.have;
         let raw = self.raw;
         if have == 0 {
             if raw != 0 {
-                return Taken::Impossible;
+                return VarintTaken::Impossible;
             }
             return start(s);
         }
         if !self.is_possible() {
-            return Taken::Impossible;
+            return VarintTaken::Impossible;
         }
         go_on(have, raw, s)
     }
 }
 
 // From the first byte on.
-fn start(s: &[u8]) -> Taken
+fn start(s: &[u8]) -> VarintTaken
     ensures { λ r. ⌜ r ≡ takeVarint (partialOf []) (now (s .entry)) ⌝ }
 {
     let read = read_varint(s);
     match read {
-        Varint::Whole { value, size } => Taken::Ends {
+        Varint::Whole { value, size } => VarintTaken::Ends {
             used: size,
             value: value,
         },
         Varint::Incomplete => {
             let n = number_on(s, 0, 0, s.len());
-            Taken::More(Partial {
+            VarintTaken::More(Partial {
                 have: s.len() as u8,
                 raw: n,
             })
@@ -103,7 +89,7 @@ fn start(s: &[u8]) -> Taken
 }
 
 // From a later byte on: the first one says how many there are.
-fn go_on(have: u8, raw: u64, s: &[u8]) -> Taken
+fn go_on(have: u8, raw: u64, s: &[u8]) -> VarintTaken
     requires { ⌜ (0 < have) × (starts have raw ≡ true) ⌝ }
     ensures { λ r. ⌜ r ≡ takeVarint (partial have raw) (now (s .entry)) ⌝ }
 {
@@ -111,16 +97,30 @@ fn go_on(have: u8, raw: u64, s: &[u8]) -> Taken
     let missing = size - (have as usize);
     if s.len() < missing {
         let n = number_on(s, have, raw, s.len());
-        return Taken::More(Partial {
+        return VarintTaken::More(Partial {
             have: have + (s.len() as u8),
             raw: n,
         });
     }
     let n = number_on(s, have, raw, missing);
-    Taken::Ends {
+    VarintTaken::Ends {
         used: missing,
         value: value_of(size, n),
     }
+}
+
+// The number that goes on from raw by the first count bytes of s.
+fn number_on(s: &[u8], have: u8, raw: u64, count: usize) -> u64
+    requires { ⌜ (have + count ≤ 8) × (raw < 256 ^ have) × (count ≤ length (now s)) ⌝ }
+    ensures { λ r. ⌜ r ≡ numFrom raw (take count (now (s .entry))) ⌝ }
+{
+    let mut n = raw;
+    let mut i: usize = 0;
+    while i < count {
+        n = n * 256 + wide(s[i]);
+        i += 1;
+    }
+    n
 }
 
 // The value of a varint of size bytes that are the number n.

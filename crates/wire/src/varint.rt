@@ -45,70 +45,6 @@ pub enum Written {
     Wrote(usize),
 }
 
-pub(crate) fn wide(b: u8) -> u64
-    ensures { λ r. ⌜ r ≡ b ⌝ }
-{
-    b as u64
-}
-
-// How many bytes a varint has, by its first byte.
-pub(crate) fn size_of(first: u8) -> usize
-    ensures { λ r. ⌜ r ≡ sizeOf first ⌝ }
-{
-    if first < Varint::FIRST_OF_2 {
-        1
-    } else if first < Varint::FIRST_OF_4 {
-        2
-    } else if first < Varint::FIRST_OF_8 {
-        4
-    } else {
-        8
-    }
-}
-
-// The big-endian number of 2, of 4 and of 8 bytes.
-fn number2(s: &[u8], at: usize) -> u64
-    requires { ⌜ at + 2 ≤ length (now s) ⌝ }
-    ensures { λ r. ⌜ (r ≡ num (take 2 (drop at (now (s .entry))))) × (r < 65536) ⌝ }
-{
-    wide(s[at]) * 256 + wide(s[at + 1])
-}
-
-fn number4(s: &[u8], at: usize) -> u64
-    requires { ⌜ at + 4 ≤ length (now s) ⌝ }
-    ensures { λ r. ⌜ (r ≡ num (take 4 (drop at (now (s .entry))))) × (r < 4294967296) ⌝ }
-{
-    number2(s, at) * 65536 + number2(s, at + 2)
-}
-
-fn number8(s: &[u8], at: usize) -> u64
-    requires { ⌜ at + 8 ≤ length (now s) ⌝ }
-    ensures { λ r. ⌜ r ≡ num (take 8 (drop at (now (s .entry)))) ⌝ }
-{
-    number4(s, at) * 4294967296 + number4(s, at + 4)
-}
-
-// Four or eight bytes, out of the number of the first eight: no branch between the two, which would be a guess.
-fn long_form(first: u8, w: u64) -> Varint
-    requires { ⌜ (first ≡ w / 2 ^ 56) × (128 ≤ first) ⌝ }
-    ensures { λ r. ⌜ r ≡ readVarint (bytesOf 8 w) ⌝ }
-{
-    let value = if first >= Varint::FIRST_OF_8 {
-        w - Varint::ZERO_OF_8
-    } else {
-        w / 4294967296 - Varint::ZERO_OF_4
-    };
-    let size = if first >= Varint::FIRST_OF_8 {
-        8usize
-    } else {
-        4usize
-    };
-    Varint::Whole {
-        value: value,
-        size: size,
-    }
-}
-
 pub fn read_varint(s: &[u8]) -> Varint
     ensures { λ r. ⌜ r ≡ readVarint (now (s .entry)) ⌝ }
 {
@@ -162,6 +98,88 @@ pub fn least_size(n: u64) -> usize
     }
 }
 
+// The shortest varint of a number, at a place of the output.
+pub fn write_varint(n: u64, out: &mut [u8], place: usize) -> Written
+    ensures { λ r. ⌜ writing r (now (out .exit)) ≡ writeVarint n (now (out .entry)) place ⌝ }
+{
+    if n > Varint::MAX {
+        return Written::Refused(Refusal::NUMBER_TOO_LARGE);
+    }
+    let size = least_size(n);
+    if place > out.len() {
+        return Written::Refused(Refusal::OUTPUT_TOO_SHORT);
+    }
+    if out.len() - place < size {
+        return Written::Refused(Refusal::OUTPUT_TOO_SHORT);
+    }
+    put_varint(out, place, n);
+    Written::Wrote(size)
+}
+
+pub(crate) fn wide(b: u8) -> u64
+    ensures { λ r. ⌜ r ≡ b ⌝ }
+{
+    b as u64
+}
+
+// The big-endian number of 2, of 4 and of 8 bytes.
+fn number2(s: &[u8], at: usize) -> u64
+    requires { ⌜ at + 2 ≤ length (now s) ⌝ }
+    ensures { λ r. ⌜ (r ≡ num (take 2 (drop at (now (s .entry))))) × (r < 65536) ⌝ }
+{
+    wide(s[at]) * 256 + wide(s[at + 1])
+}
+
+// Four or eight bytes, out of the number of the first eight: no branch between the two, which would be a guess.
+fn long_form(first: u8, w: u64) -> Varint
+    requires { ⌜ (first ≡ w / 2 ^ 56) × (128 ≤ first) ⌝ }
+    ensures { λ r. ⌜ r ≡ readVarint (bytesOf 8 w) ⌝ }
+{
+    let value = if first >= Varint::FIRST_OF_8 {
+        w - Varint::ZERO_OF_8
+    } else {
+        w / 4294967296 - Varint::ZERO_OF_4
+    };
+    let size = if first >= Varint::FIRST_OF_8 {
+        8usize
+    } else {
+        4usize
+    };
+    Varint::Whole {
+        value: value,
+        size: size,
+    }
+}
+
+fn number8(s: &[u8], at: usize) -> u64
+    requires { ⌜ at + 8 ≤ length (now s) ⌝ }
+    ensures { λ r. ⌜ r ≡ num (take 8 (drop at (now (s .entry)))) ⌝ }
+{
+    number4(s, at) * 4294967296 + number4(s, at + 4)
+}
+
+fn number4(s: &[u8], at: usize) -> u64
+    requires { ⌜ at + 4 ≤ length (now s) ⌝ }
+    ensures { λ r. ⌜ (r ≡ num (take 4 (drop at (now (s .entry))))) × (r < 4294967296) ⌝ }
+{
+    number2(s, at) * 65536 + number2(s, at + 2)
+}
+
+fn put_varint(out: &mut [u8], at: usize, n: u64)
+    requires { ⌜ (at + leastSize n ≤ length (now out)) × (n ≤ largest) ⌝ }
+    ensures { λ _. ⌜ now (out .exit) ≡ sets (now (out .entry)) at (encode n) ⌝ }
+{
+    if n <= Varint::MAX_OF_1 {
+        out[at] = n as u8;
+    } else if n <= Varint::MAX_OF_2 {
+        put2(out, at, Varint::ZERO_OF_2 + n);
+    } else if n <= Varint::MAX_OF_4 {
+        put4(out, at, Varint::ZERO_OF_4 + n);
+    } else {
+        put8(out, at, Varint::ZERO_OF_8 + n);
+    }
+}
+
 // The last 2, 4 or 8 bytes of a number, big-endian.
 fn put2(out: &mut [u8], at: usize, n: u64)
     requires { ⌜ (at + 2 ≤ length (now out)) × (n < 65536) ⌝ }
@@ -187,35 +205,17 @@ fn put8(out: &mut [u8], at: usize, n: u64)
     put4(out, at + 4, n % 4294967296);
 }
 
-fn put_varint(out: &mut [u8], at: usize, n: u64)
-    requires { ⌜ (at + leastSize n ≤ length (now out)) × (n ≤ largest) ⌝ }
-    ensures { λ _. ⌜ now (out .exit) ≡ sets (now (out .entry)) at (encode n) ⌝ }
+// How many bytes a varint has, by its first byte.
+pub(crate) fn size_of(first: u8) -> usize
+    ensures { λ r. ⌜ r ≡ sizeOf first ⌝ }
 {
-    if n <= Varint::MAX_OF_1 {
-        out[at] = n as u8;
-    } else if n <= Varint::MAX_OF_2 {
-        put2(out, at, Varint::ZERO_OF_2 + n);
-    } else if n <= Varint::MAX_OF_4 {
-        put4(out, at, Varint::ZERO_OF_4 + n);
+    if first < Varint::FIRST_OF_2 {
+        1
+    } else if first < Varint::FIRST_OF_4 {
+        2
+    } else if first < Varint::FIRST_OF_8 {
+        4
     } else {
-        put8(out, at, Varint::ZERO_OF_8 + n);
+        8
     }
-}
-
-// The shortest varint of a number, at a place of the output.
-pub fn write_varint(n: u64, out: &mut [u8], place: usize) -> Written
-    ensures { λ r. ⌜ writing r (now (out .exit)) ≡ writeVarint n (now (out .entry)) place ⌝ }
-{
-    if n > Varint::MAX {
-        return Written::Refused(Refusal::NUMBER_TOO_LARGE);
-    }
-    let size = least_size(n);
-    if place > out.len() {
-        return Written::Refused(Refusal::OUTPUT_TOO_SHORT);
-    }
-    if out.len() - place < size {
-        return Written::Refused(Refusal::OUTPUT_TOO_SHORT);
-    }
-    put_varint(out, place, n);
-    Written::Wrote(size)
 }

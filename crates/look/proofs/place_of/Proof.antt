@@ -1,23 +1,14 @@
 -- One answer for each phase; that a makeable value has no more bytes to come than its extent is `makeable-value`.
 use Rattle.walks.proofs.Words.{_≡_, subst, true, eq-eqb, ne-eqb, needs}
-use Rattle.capsule.specs.declared.reader.Phase.{Phase}
-use Rattle.capsule.specs.Reader.{isMakeablePhase}
-use Rattle.capsule.proofs.Planning.{makeable-value}
-use Rattle.look.specs.Looking.{placeOf}
-use Rattle.look.proofs.place_of.Statement.{statement}
-use Rattle.look.proofs.place_of.Tie as tie
+use Rattle.look.proofs.Terms.{Phase, isMakeablePhase, makeable-value, placeOf}
+use Rattle.look.proofs.place_of as this
 
-pub place-of-spec : {M : Type 1} → statement M
+pub place-of-spec : {M : Type 1} → this.Statement.statement M
 unfolding placeOf
 place-of-spec =
-    tie.close
-    (tie.spec
-    (λ c. search needs)
+    this.Tie.close (this.Tie.spec (λ c. search needs)
     (λ c. rw (c .before .before .before .phase .given .1, eq-eqb _ _ (c .if1 .taken)))
-    (λ c. search needs)
-    (λ c. search needs)
-    (λ c κs. search needs)
-    (λ c κs. search needs)
+    (λ c. search needs) (λ c. search needs) (λ c κs. search needs) (λ c κs. search needs)
     (λ c.
     let s = c .before .before .before .before .before in
     let a = s .args in

@@ -1,8 +1,7 @@
 use Rattle.show_reader.specs.Consumed.{consumedIn}
-use borrow.Author.Needs.{needs}
-use Rattle.show_reader.proofs.consumed.Statement.{statement}
-use Rattle.show_reader.proofs.consumed.Tie as tie
+use Rattle.walks.proofs.Words.{needs}
+use Rattle.show_reader.proofs.consumed as this
 
-pub consumed-spec : {M : Type 1} → statement M
+pub consumed-spec : {M : Type 1} → this.Statement.statement M
 unfolding consumedIn
-consumed-spec = tie.close (tie.spec (λ c. search needs) (λ c. search needs) (λ c. search needs) (λ c. search needs))
+consumed-spec = this.Tie.close (this.Tie.spec (λ c. search needs) (λ c. search needs) (λ c. search needs) (λ c. search needs))

@@ -1,9 +1,9 @@
+-- The writer's promise, with its answer in numbers.
 use Rattle.walks.proofs.Words.{ap, needs}
-use Rattle.capi.specs.Varint.{wroteBy}
-use Rattle.capi.proofs.address_capsules.mrz_write_route_advertisement.Statement.{statement}
-use Rattle.capi.proofs.address_capsules.mrz_write_route_advertisement.Tie as tie
+use Rattle.capi.proofs.Terms.{wroteBy}
+use Rattle.capi.proofs.address_capsules.mrz_write_route_advertisement as this
 
-pub mrz-write-route-advertisement-spec : {M : Type 1} → statement M
+pub mrz-write-route-advertisement-spec : {M : Type 1} → this.Statement.statement M
 unfolding wroteBy
 mrz-write-route-advertisement-spec =
-    tie.close (tie.spec (λ c κs. search needs) (λ c κs. search needs) (λ c. search needs) (λ c. rw (c .written-answer .ensures) (ap wroteBy (c .before .before .before .write-routes .ensures))))
+    this.Tie.close (this.Tie.spec (λ c κs. search needs) (λ c κs. search needs) (λ c. search needs) (λ c. rw (c .written-answer .ensures) (ap wroteBy (c .before .before .before .write-routes .ensures))))

@@ -1,7 +1,7 @@
+-- What the two calls promise, one after the other.
 use Rattle.walks.proofs.Words.{ap, _∙_, needs}
-use Rattle.crossing.specs.Numbers.{bitOf}
-use Rattle.capi.proofs.messages.mrz_field_in_use.Statement.{statement}
-use Rattle.capi.proofs.messages.mrz_field_in_use.Tie as tie
+use Rattle.capi.proofs.Terms.{bitOf}
+use Rattle.capi.proofs.messages.mrz_field_in_use as this
 
-pub mrz-field-in-use-spec : {M : Type 1} → statement M
-mrz-field-in-use-spec = tie.close (tie.spec (λ c κs. search needs) (λ c κs. search needs) (λ c. c .bit-of .ensures ∙ ap bitOf (c .before .in-use .ensures)))
+pub mrz-field-in-use-spec : {M : Type 1} → this.Statement.statement M
+mrz-field-in-use-spec = this.Tie.close (this.Tie.spec (λ c κs. search needs) (λ c κs. search needs) (λ c. c .bit-of .ensures ∙ ap bitOf (c .before .in-use .ensures)))

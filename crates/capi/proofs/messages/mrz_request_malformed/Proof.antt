@@ -1,17 +1,8 @@
-use borrow.Author.Needs.{needs}
-use Rattle.capi.proofs.messages.mrz_request_malformed.Statement.{statement}
-use Rattle.capi.proofs.messages.mrz_request_malformed.Tie as tie
+-- The numbers read as flags, then what the two calls promise.
+use Rattle.walks.proofs.Words.{needs}
+use Rattle.capi.proofs.messages.mrz_request_malformed as this
 
-returns : tie.Need-returns
-returns c = rw (c .bit-of .ensures, c .before .request-malformed .ensures, c .before .before .flag-of3 .ensures, c .before .before .before .flag-of2 .ensures, c .before .before .before .before .flag-of .ensures)
-
-pub mrz-request-malformed-spec : {M : Type 1} → statement M
+pub mrz-request-malformed-spec : {M : Type 1} → this.Statement.statement M
 mrz-request-malformed-spec =
-    tie.close
-    (tie.spec
-    (λ c κs. search needs)
-    (λ c κs. search needs)
-    (λ c κs. search needs)
-    (λ c κs. search needs)
-    (λ c κs. search needs)
-    returns)
+    this.Tie.close (this.Tie.spec (λ c κs. search needs) (λ c κs. search needs) (λ c κs. search needs) (λ c κs. search needs) (λ c κs. search needs)
+    (λ c. rw (c .bit-of .ensures, c .before .request-malformed .ensures, c .before .before .flag-of3 .ensures, c .before .before .before .flag-of2 .ensures, c .before .before .before .before .flag-of .ensures)))

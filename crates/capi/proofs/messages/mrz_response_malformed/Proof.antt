@@ -1,18 +1,9 @@
-use borrow.Author.Needs.{needs}
-use Rattle.capi.proofs.messages.mrz_response_malformed.Statement.{statement}
-use Rattle.capi.proofs.messages.mrz_response_malformed.Tie as tie
+-- The numbers read as a status and flags, then what the two calls promise.
+use Rattle.walks.proofs.Words.{needs}
+use Rattle.capi.proofs.messages.mrz_response_malformed as this
 
-returns : tie.Need-returns
-returns c = rw (c .bit-of .ensures, c .before .response-malformed .ensures, c .before .before .flag-of3 .ensures, c .before .before .before .flag-of2 .ensures, c .before .before .before .before .flag-of .ensures, c .before .before .before .before .before .status-of .ensures)
-
-pub mrz-response-malformed-spec : {M : Type 1} → statement M
+pub mrz-response-malformed-spec : {M : Type 1} → this.Statement.statement M
 mrz-response-malformed-spec =
-    tie.close
-    (tie.spec
+    this.Tie.close (this.Tie.spec (λ c κs. search needs) (λ c κs. search needs) (λ c κs. search needs) (λ c κs. search needs) (λ c κs. search needs)
     (λ c κs. search needs)
-    (λ c κs. search needs)
-    (λ c κs. search needs)
-    (λ c κs. search needs)
-    (λ c κs. search needs)
-    (λ c κs. search needs)
-    returns)
+    (λ c. rw (c .bit-of .ensures, c .before .response-malformed .ensures, c .before .before .flag-of3 .ensures, c .before .before .before .flag-of2 .ensures, c .before .before .before .before .flag-of .ensures, c .before .before .before .before .before .status-of .ensures)))

@@ -4,25 +4,14 @@ use Rattle.walks.proofs.Walk.{Lfts, givenOf, tables, _$_, !, move, agg, look, i
 use denote.Struct.Laws as LL
 use Rattle.wire.proofs.units.StreamId as N
 use Rattle.wire.proofs.units.StreamId.Laws as N′
-use Rattle.streams.specs.Tables.{standingOf}
-use Rattle.streams.proofs.Answering.{identifier, rows}
-use Rattle.streams.proofs.table.Standing as Y
-use Rattle.streams.proofs.table.Standing.Laws as Y′
-use Rattle.streams.proofs.table.find_stream.Symbol as find-def
-use Rattle.streams.proofs.table.find_stream.Symbol.{name as #find}
-use Rattle.streams.proofs.table.find_stream.Met as find-thm
-use Rattle.walks.proofs.Calling.{Fact}
-use Rattle.walks.proofs.Passing.{Param, word, slots, values, passing, clears, ends-owning, meets-passing}
-use Rattle.crossing.specs.Table.{foundAnswer}
-use Rattle.capi.specs.Table.{streamId}
-use Rattle.crossing.proofs.table.FoundAnswer as Z
-use Rattle.crossing.proofs.table.FoundAnswer.Laws as Z′
-use Rattle.crossing.proofs.table.found_answer.Symbol as say-def
-use Rattle.crossing.proofs.table.found_answer.Symbol.{name as #say}
-use Rattle.crossing.proofs.table.found_answer.Met as say-thm
-use Rattle.capi.proofs.table.mrz_stream_find.Key.{name as #f}
-use Rattle.capi.proofs.table.mrz_stream_find.Statement as stated
-use Rattle.capi.proofs.table.mrz_stream_find.Code as code
+use Rattle.capi.proofs.Terms.{standingOf, identifier, rows, Fact, Param, word, slots, values, passing, clears, ends-owning, meets-passing, foundAnswer, streamId}
+use Rattle.stream_records.proofs.answers.Standing as Y
+use Rattle.stream_records.proofs.answers.Standing.Laws as Y′
+use Rattle.streams.proofs.table.find_stream as find
+use Rattle.stream_answers.proofs.table.FoundAnswer as Z
+use Rattle.stream_answers.proofs.table.FoundAnswer.Laws as Z′
+use Rattle.stream_answers.proofs.table.found_answer as say
+use Rattle.capi.proofs.table.mrz_stream_find as this
 use Rattle.capi.proofs.Crossing.{Data, structure, choice, identifies, called, answers}
 
 abbrev standing : Data
@@ -46,18 +35,18 @@ Finds κs a r e = r ≡ standingOf (now (a .0)) (a .1 .0)
 abbrev Claimed : Fact (passing given (plain (λ _. found .type)))
 Claimed κs a r e = r ≡ foundAnswer (standingOf (now (a .0)) (streamId (a .1 .0)))
 
-pub mrz-stream-find-spec : {M : Type 1} → stated.statement M
-unfolding code.routine
-mrz-stream-find-spec 𝓤 H 𝓜 𝓖 𝓡 = meets-passing given (plain (λ _. found .type)) Claimed 𝓤 H 𝓜 𝓖 𝓡 code.env #f code.function (code.unfolded 𝓤 H 𝓜 𝓡) (λ fm κs qs a fit.
+pub mrz-stream-find-spec : {M : Type 1} → this.Statement.statement M
+unfolding this.Code.routine
+mrz-stream-find-spec 𝓤 H 𝓜 𝓖 𝓡 = meets-passing given (plain (λ _. found .type)) Claimed 𝓤 H 𝓜 𝓖 𝓡 this.Code.env this.Key.name this.Code.function (this.Code.unfolded 𝓤 H 𝓜 𝓡) (λ fm κs qs a fit.
     let W = givenOf 𝓤 H 𝓜 𝓖 in
     let id = a .1 .0 in
-    enter ! (tables 𝓤 H 𝓜 𝓡 code.env .C) (tables 𝓤 H 𝓜 𝓡 code.env .Λ) code.function _ _ $ alloc1 ! (λ l₀. alloc1 ! (λ l₁. alloc1 ! (λ l₂. alloc1 ! (λ l₃. alloc1 ! (λ l₄. alloc0 ! $
+    enter ! (tables 𝓤 H 𝓜 𝓡 this.Code.env .C) (tables 𝓤 H 𝓜 𝓡 this.Code.env .Λ) this.Code.function _ _ $ alloc1 ! (λ l₀. alloc1 ! (λ l₁. alloc1 ! (λ l₂. alloc1 ! (λ l₃. alloc1 ! (λ l₄. alloc0 ! $
     params1 ! $ pass1 ! (init ! 6 refl (fit .0)) $ pass1 ! (init ! 4 refl (fit .1 .0)) $ pass0 ! $
     move ! (11 ∷ 10 ∷ []) $ identifies ! id (λ id-is.
     -- [what is passed; the token; the locals, the last first]
     assigns ! (agg ! (and-then ! (load ! (from ! (stop !)) (look ! 6 refl)) (no-more !))) (from ! (stop !)) (init ! 2 refl (LL.lawful N.the-type N′.the-laws 𝓤 H (𝓖 .A) W .typed (streamId id) _ id-is .0)) $
-    move ! (1 ∷ 0 ∷ 4 ∷ 10 ∷ 11 ∷ []) $ answers 1 (slots beside) standing found Finds (λ y z. z ≡ foundAnswer y) ! fm (cited 𝓤 H _ 𝓜 𝓡 code.env #find find-def.routine code.calls-streams·table·find-stream (find-thm.met 𝓤 H 𝓜 𝓖 𝓡))
-    (cited 𝓤 H _ 𝓜 𝓡 code.env #say say-def.routine code.calls-crossing·table·found-answer (say-thm.met 𝓤 H 𝓜 𝓖 𝓡)) κs qs (passed κs a) (values κs beside (passed κs a)) refl refl
+    move ! (1 ∷ 0 ∷ 4 ∷ 10 ∷ 11 ∷ []) $ answers 1 (slots beside) standing found Finds (λ y z. z ≡ foundAnswer y) ! fm (cited 𝓤 H _ 𝓜 𝓡 this.Code.env find.Symbol.name find.Symbol.routine this.Code.calls-streams·table·find-stream (find.Met.met 𝓤 H 𝓜 𝓖 𝓡))
+    (cited 𝓤 H _ 𝓜 𝓡 this.Code.env say.Symbol.name say.Symbol.routine this.Code.calls-stream-answers·table·found-answer (say.Met.met 𝓤 H 𝓜 𝓖 𝓡)) κs qs (passed κs a) (values κs beside (passed κs a)) refl refl
     (and-then ! (load ! (from ! (stop !)) (look ! 9 refl)) (and-then ! (load ! (from ! (stop !)) (look ! 4 refl)) (no-more !))) (λ _ v y z ws e said.
     -- [the token; what is left; the answer; _3; _4; the rest of _4 and of _3; _2; _1]
     move ! (9 ∷ 10 ∷ 7 ∷ 8 ∷ 3 ∷ 6 ∷ 4 ∷ 5 ∷ []) $ clears ! $ clears ! $ clears ! $ clears ! $ free0 ! $

@@ -1,21 +1,13 @@
-use Rattle.opening.specs.Kinds.{judged}
-use Rattle.capsule.specs.Reader.{lengthOf}
-use borrow.Author.Needs.{needs}
-use Rattle.capsule.proofs.reader.judge_report.Statement.{statement}
-use Rattle.capsule.proofs.reader.judge_report.Tie as tie
+-- By cases of the report; only an address capsule is judged.
+use Rattle.capsule.proofs.Terms.{judged, lengthOf}
+use Rattle.walks.proofs.Words.{needs}
+use Rattle.capsule.proofs.reader.judge_report as this
 
-pub judge-report-spec : {M : Type 1} → statement M
+pub judge-report-spec : {M : Type 1} → this.Statement.statement M
 unfolding judged lengthOf
 judge-report-spec =
-    tie.close
-    (tie.spec
-    (λ c. search needs)
-    (λ c. search needs)
-    (λ c. search needs)
-    (λ c. search needs)
-    (λ c. search needs)
-    (λ c κs. search needs)
-    (λ c. search needs)
+    this.Tie.close (this.Tie.spec (λ c. search needs) (λ c. search needs) (λ c. search needs) (λ c. search needs) (λ c. search needs)
+    (λ c κs. search needs) (λ c. search needs)
     (λ c. rw (c .enum-told .given .1))
     (λ c. rw (c .enum-told2 .given .1))
     (λ c. rw (c .enum-told3 .given .1))

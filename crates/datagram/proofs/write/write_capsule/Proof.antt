@@ -2,31 +2,15 @@
 use Rattle.walks.proofs.Words.{_≡_, refl, ap, _∙_, ℕ, List, [], _∷_}
 use Rattle.walks.proofs.Walk.{URA, Heap, Calls, Loops, Atoms, givenOf, tables, Given, _$_, !, move, fsplit, fjoin, agg, whole, sub, look-in, look, init, stop, hop, fld, from, load, addr, and-then, no-more, assigns, enter, alloc1, alloc0, params1, pass1, pass0, free0, FmC, now, Slot, plain, Triple, cited}
 use denote.Enum.Laws as EL
-use Rattle.wire.specs.Writing.{writing}
+use Rattle.datagram.proofs.Terms.{writing, Lookup, looking, LookedUp, identifier, asking, Sought, seeks-and-looks-up, finishing, answering, Answers, ends-answering, meets-answering, Fact, Ensures, Param, word, bytes, output, slots, values, takes-last, clears, writeCapsule, capsuleBy, sent-by-lookup}
 use Rattle.wire.proofs.varint.Written as E
 use Rattle.wire.proofs.varint.Written.Laws as E′
-use Rattle.streams.specs.declared.table.Lookup.{Lookup}
-use Rattle.streams.proofs.table.Lookup as L
-use Rattle.streams.proofs.table.Lookup.Laws as L′
-use Rattle.streams.proofs.table.sought.Symbol as seek-def
-use Rattle.streams.proofs.table.sought.Symbol.{name as #seek}
-use Rattle.streams.proofs.table.sought.Met as seek-thm
-use Rattle.streams.proofs.table.look_up.Symbol as look-def
-use Rattle.streams.proofs.table.look_up.Symbol.{name as #look-up}
-use Rattle.streams.proofs.table.look_up.Met as look-thm
-use Rattle.streams.proofs.Querying.{looking, LookedUp}
-use Rattle.streams.proofs.Answering.{identifier, asking, Sought, seeks-and-looks-up, finishing, answering, Answers, ends-answering, meets-answering}
-use Rattle.walks.proofs.Calling.{Fact, Ensures}
-use Rattle.walks.proofs.Passing.{Param, word, bytes, output, slots, values, takes-last, clears}
-use Rattle.datagram.specs.Sending.{writeCapsule}
-use Rattle.datagram.specs.Code.{capsuleBy}
-use Rattle.datagram.proofs.write.capsule_by.Symbol as last-def
-use Rattle.datagram.proofs.write.capsule_by.Symbol.{name as #last}
-use Rattle.datagram.proofs.write.capsule_by.Met as last-thm
-use Rattle.datagram.proofs.write.write_capsule.Key.{name as #f}
-use Rattle.datagram.proofs.write.write_capsule.Statement as stated
-use Rattle.datagram.proofs.write.write_capsule.Code as code
-use Rattle.datagram.proofs.Deciding.{sent-by-lookup}
+use Rattle.stream_records.proofs.answers.Lookup as L
+use Rattle.stream_records.proofs.answers.Lookup.Laws as L′
+use Rattle.stream_plans.proofs.plan.sought as seek
+use Rattle.streams.proofs.table.look_up as look·fn
+use Rattle.sending.proofs.write.capsule_by as last
+use Rattle.datagram.proofs.write.write_capsule as this
 
 -- beside what was found, and beside the rows
 abbrev given : List (Param 2)
@@ -44,11 +28,11 @@ Ends κs a r e = writing r (now (e .1 .1 .1 .0)) ≡ capsuleBy (a .0) (a .1 .0) 
 abbrev Says : Fact (answering beside written)
 Says κs a r e = writing r (now (e .1 .1 .1 .0)) ≡ writeCapsule (now (a .0)) (a .1 .0) (now (a .1 .1 .0)) (now (a .1 .1 .1 .0)) (a .1 .1 .1 .1 .0)
 
-module _ {M : Type 1} (𝓤 : URA M) (H : Heap 𝓤) (A : Atoms 𝓤) (W : Given 𝓤 H A) (C : Calls 𝓤 H) (Λ : Loops 𝓤 H) (fm : FmC 𝓤 H (W .laws) C) (seeks : Triple 𝓤 (C #seek) (Ensures (asking 0 (slots (identifier ∷ []))) Sought 𝓤 H A))
-    (looks : Triple 𝓤 (C #look-up) (Ensures looking LookedUp 𝓤 H A)) (writes : Triple 𝓤 (C #last) (Ensures (finishing 2 (slots given) written) Ends 𝓤 H A)) where
-  walk : Answers beside written Says 𝓤 H A W C Λ code.function
+module _ {M : Type 1} (𝓤 : URA M) (H : Heap 𝓤) (A : Atoms 𝓤) (W : Given 𝓤 H A) (C : Calls 𝓤 H) (Λ : Loops 𝓤 H) (fm : FmC 𝓤 H (W .laws) C) (seeks : Triple 𝓤 (C seek.Symbol.name) (Ensures (asking 0 (slots (identifier ∷ []))) Sought 𝓤 H A))
+    (looks : Triple 𝓤 (C look·fn.Symbol.name) (Ensures looking LookedUp 𝓤 H A)) (writes : Triple 𝓤 (C last.Symbol.name) (Ensures (finishing 2 (slots given) written) Ends 𝓤 H A)) where
+  walk : Answers beside written Says 𝓤 H A W C Λ this.Code.function
   walk κs qs x a fit =
-      enter ! C Λ code.function _ _ $ alloc1 ! (λ l₀. alloc1 ! (λ l₁. alloc1 ! (λ l₂. alloc1 ! (λ l₃. alloc1 ! (λ l₄. alloc1 ! (λ l₅. alloc1 ! (λ l₆. alloc1 ! (λ l₇. alloc1 ! (λ l₈. alloc1 ! (λ l₉. alloc0 ! $
+      enter ! C Λ this.Code.function _ _ $ alloc1 ! (λ l₀. alloc1 ! (λ l₁. alloc1 ! (λ l₂. alloc1 ! (λ l₃. alloc1 ! (λ l₄. alloc1 ! (λ l₅. alloc1 ! (λ l₆. alloc1 ! (λ l₇. alloc1 ! (λ l₈. alloc1 ! (λ l₉. alloc0 ! $
       params1 ! $ pass1 ! (init ! 16 refl (fit .0)) $ pass1 ! (init ! 14 refl (fit .1 .0)) $ pass1 ! (init ! 12 refl (fit .1 .1 .0)) $ pass1 ! (init ! 10 refl (fit .1 .1 .1 .0)) $ pass1 ! (init ! 8 refl (fit .1 .1 .1 .1 .0)) $ pass0 ! $
       move ! (23 ∷ []) $ fsplit ! $ move ! (0 ∷ 22 ∷ 23 ∷ 18 ∷ 16 ∷ 6 ∷ 8 ∷ []) $ seeks-and-looks-up ! fm seeks looks (κs .0) (qs .0) x (a .0) refl refl refl refl (λ _ y w ey is.
       -- [the ID's; the rows' token; _1; _2; _7; _6; the others'; _9 at 7; _8; the rest of _7 and of _6; _5 at 13; _4; …; the rest of _2 and of _1; _0; the others' tokens]
@@ -59,8 +43,8 @@ module _ {M : Type 1} (𝓤 : URA M) (H : Heap 𝓤) (A : Atoms 𝓤) (W : Given
       move ! (4 ∷ 21 ∷ 5 ∷ 20 ∷ 18 ∷ 19 ∷ 16 ∷ 17 ∷ 14 ∷ 15 ∷ 7 ∷ 13 ∷ 6 ∷ 12 ∷ 10 ∷ 11 ∷ 8 ∷ 9 ∷ []) $ clears ! $ clears ! $ clears ! $ clears ! $ clears ! $ clears ! $ clears ! $ clears ! $ clears ! $ free0 ! $
       move ! (3 ∷ []) $ ends-answering beside written Says 𝓤 H A W κs qs x a ! v r (ws .1) (e ∙ ap (λ (l : Lookup). capsuleBy l (a .0) (now (a .1 .0)) (now (a .1 .1 .0)) (a .1 .1 .1 .0)) ey ∙ sent-by-lookup (now x) (a .0) (now (a .1 .0)) (now (a .1 .1 .0)) (a .1 .1 .1 .0) .0)))))))))))))
 
-pub write-capsule-spec : {M : Type 1} → stated.statement M
-unfolding code.routine
+pub write-capsule-spec : {M : Type 1} → this.Statement.statement M
+unfolding this.Code.routine
 write-capsule-spec 𝓤 H 𝓜 𝓖 𝓡 =
-    meets-answering beside written Says 𝓤 H 𝓜 𝓖 𝓡 code.env #f code.function (code.unfolded 𝓤 H 𝓜 𝓡) (λ fm. walk 𝓤 H (𝓖 .A) (givenOf 𝓤 H 𝓜 𝓖) (tables 𝓤 H 𝓜 𝓡 code.env .C) (tables 𝓤 H 𝓜 𝓡 code.env .Λ) fm
-    (cited 𝓤 H _ 𝓜 𝓡 code.env #seek seek-def.routine code.calls-streams·table·sought (seek-thm.met 𝓤 H 𝓜 𝓖 𝓡)) (cited 𝓤 H _ 𝓜 𝓡 code.env #look-up look-def.routine code.calls-streams·table·look-up (look-thm.met 𝓤 H 𝓜 𝓖 𝓡)) (cited 𝓤 H _ 𝓜 𝓡 code.env #last last-def.routine code.calls-datagram·write·capsule-by (last-thm.met 𝓤 H 𝓜 𝓖 𝓡)))
+    meets-answering beside written Says 𝓤 H 𝓜 𝓖 𝓡 this.Code.env this.Key.name this.Code.function (this.Code.unfolded 𝓤 H 𝓜 𝓡) (λ fm. walk 𝓤 H (𝓖 .A) (givenOf 𝓤 H 𝓜 𝓖) (tables 𝓤 H 𝓜 𝓡 this.Code.env .C) (tables 𝓤 H 𝓜 𝓡 this.Code.env .Λ) fm
+    (cited 𝓤 H _ 𝓜 𝓡 this.Code.env seek.Symbol.name seek.Symbol.routine this.Code.calls-stream-plans·plan·sought (seek.Met.met 𝓤 H 𝓜 𝓖 𝓡)) (cited 𝓤 H _ 𝓜 𝓡 this.Code.env look·fn.Symbol.name look·fn.Symbol.routine this.Code.calls-streams·table·look-up (look·fn.Met.met 𝓤 H 𝓜 𝓖 𝓡)) (cited 𝓤 H _ 𝓜 𝓡 this.Code.env last.Symbol.name last.Symbol.routine this.Code.calls-sending·write·capsule-by (last.Met.met 𝓤 H 𝓜 𝓖 𝓡)))

@@ -4,28 +4,17 @@ use Rattle.walks.proofs.Walk.{URA, vptr, SProp, emp, GName, Memory, Routine, He
 use denote.Enum.Laws as EL
 use Rattle.capsule.proofs.reader.FeedAnswer as E
 use Rattle.capsule.proofs.reader.FeedAnswer.Laws as E′
-use Rattle.host.specs.declared.reader.Connection.{Connection}
-use Rattle.host.proofs.reader.feed_in_place.Symbol as g-def
-use Rattle.host.proofs.reader.feed_in_place.Symbol.{name as #g}
-use Rattle.host.proofs.reader.feed_in_place.Met as g-thm
-use Rattle.host.proofs.reader.feed_connection.Key.{name as #f}
+use Rattle.host.proofs.Terms.{Connection, four-of-five, others-fit, Ensures, placed, EntryInPlace, OwedInPlace, calls-in-place, ends-in-place, meets-in-place, sv}
+use Rattle.host.proofs.reader.feed_in_place as g·fn
 use Rattle.host.proofs.reader.feed_connection as f
-use Rattle.host.proofs.reader.feed_connection.Statement as stated
-use Rattle.host.proofs.reader.feed_connection.Code as code
-use Rattle.walks.proofs.Beside.{four-of-five, others-fit}
-use Rattle.walks.proofs.Calling.{Ensures}
-use Rattle.host.proofs.Facts.{Feeds}
-use Rattle.walks.proofs.InPlace.{placed, EntryInPlace, OwedInPlace, calls-in-place, ends-in-place, meets-in-place}
-use Rattle.walks.proofs.Lying.{sv}
-use Rattle.host.proofs.ReaderField.{d, with-reader, lends-reader, reader-back}
-use Rattle.host.proofs.Structs.{reader-struct, connection-struct}
+use Rattle.host.proofs.{Facts.Feeds, ReaderField.d, ReaderField.with-reader, ReaderField.lends-reader, ReaderField.reader-back, Structs.reader-struct, Structs.connection-struct}
 
-module _ {M : Type 1} (𝓤 : URA M) (H : Heap 𝓤) (A : Atoms 𝓤) (W : Given 𝓤 H A) (at-mem : Memory → SProp 𝓤) (run : Routine → Fun 𝓤) (C : Calls 𝓤 H) (Λ : Loops 𝓤 H) (fm : FmC 𝓤 H (W .laws) C) (known : Triple 𝓤 (C #g) (Ensures (placed reader-struct E.the-row 4 four-of-five) Feeds 𝓤 H A)) (κs : Lfts 5) (qs : Shares 5) (b o : ℕ) (γ : GName) (h : Connection) (p s z w : RefT (List ℕ)) where
+module _ {M : Type 1} (𝓤 : URA M) (H : Heap 𝓤) (A : Atoms 𝓤) (W : Given 𝓤 H A) (at-mem : Memory → SProp 𝓤) (run : Routine → Fun 𝓤) (C : Calls 𝓤 H) (Λ : Loops 𝓤 H) (fm : FmC 𝓤 H (W .laws) C) (known : Triple 𝓤 (C g·fn.Symbol.name) (Ensures (placed reader-struct E.the-row 4 four-of-five) Feeds 𝓤 H A)) (κs : Lfts 5) (qs : Shares 5) (b o : ℕ) (γ : GName) (h : Connection) (p s z w : RefT (List ℕ)) where
   walk : Typed (mirs (typesAt (four-of-five .slots) κs)) (sv p ∷ sv s ∷ sv z ∷ sv w ∷ [])
       → Sq W (EntryInPlace connection-struct E.the-row 4 four-of-five 𝓤 H A W (f.clauses 𝓤 H A at-mem run) κs qs b o γ h (p, (s, (z, (w, tt)))) tt)
-      (prop (WpFn 𝓤 H C Λ code.function (vptr b o ∷ sv p ∷ sv s ∷ sv z ∷ sv w ∷ []) (OwedInPlace connection-struct E.the-row 4 four-of-five 𝓤 H A W (f.clauses 𝓤 H A at-mem run) κs qs b o γ h (p, (s, (z, (w, tt)))) tt)))
+      (prop (WpFn 𝓤 H C Λ f.Code.function (vptr b o ∷ sv p ∷ sv s ∷ sv z ∷ sv w ∷ []) (OwedInPlace connection-struct E.the-row 4 four-of-five 𝓤 H A W (f.clauses 𝓤 H A at-mem run) κs qs b o γ h (p, (s, (z, (w, tt)))) tt)))
   walk fit =
-      enter ! C Λ code.function (vptr b o ∷ sv p ∷ sv s ∷ sv z ∷ sv w ∷ []) _ $
+      enter ! C Λ f.Code.function (vptr b o ∷ sv p ∷ sv s ∷ sv z ∷ sv w ∷ []) _ $
       alloc1 ! (λ l₀. alloc1 ! (λ l₁. alloc1 ! (λ l₂. alloc1 ! (λ l₃. alloc1 ! (λ l₄. alloc1 ! (λ l₅. alloc1 ! (λ l₆. alloc1 ! (λ l₇. alloc1 ! (λ l₈. alloc1 ! (λ l₉. alloc1 ! (λ l₁₀. alloc1 ! (λ l₁₁. alloc1 ! (λ l₁₂. alloc0 ! $
       params1 ! $ pass1 ! (init ! 22 refl (tt, tt)) $ pass1 ! (init ! 20 refl (fit .0)) $ pass1 ! (init ! 18 refl (fit .1 .0)) $ pass1 ! (init ! 16 refl (fit .1 .1 .0)) $ pass1 ! (init ! 14 refl (fit .1 .1 .1 .0)) $ pass0 ! $
       move ! (26 ∷ 27 ∷ 28 ∷ []) $ lends-reader ! tt b o h (λ was ν δ.
@@ -47,10 +36,10 @@ module _ {M : Type 1} (𝓤 : URA M) (H : Heap 𝓤) (A : Atoms 𝓤) (W : Given
       move ! (29 ∷ 30 ∷ 27 ∷ 28 ∷ 25 ∷ 26 ∷ 23 ∷ 24 ∷ 21 ∷ 22 ∷ 19 ∷ 20 ∷ 17 ∷ 18 ∷ 15 ∷ 16 ∷ 13 ∷ 14 ∷ 11 ∷ 12 ∷ 9 ∷ 10 ∷ 7 ∷ 8 ∷ 5 ∷ 6 ∷ []) $ free1 ! $ free1 ! $ free1 ! $ free1 ! $ free1 ! $ free1 ! $ free1 ! $ free1 ! $ free1 ! $ free1 ! $ free1 ! $ free1 ! $ free1 ! $ free0 ! $
       ends-in-place connection-struct E.the-row 4 four-of-five 𝓤 H A W (f.clauses 𝓤 H A at-mem run) κs qs b o γ h (p, (s, (z, (w, tt)))) tt ! v r (with-reader h h′) ws (factI 𝓤 _ (emp 𝓤) (e, record { same-id = refl; same-deadline = refl })) (EL.makes E.the-type E′.the-plain 𝓤 H A) is)))))))))))))))
 
-pub feed-connection-spec : {M : Type 1} → stated.statement M
-unfolding code.routine
+pub feed-connection-spec : {M : Type 1} → f.Statement.statement M
+unfolding f.Code.routine
 feed-connection-spec 𝓤 H 𝓜 𝓖 𝓡 =
-    meets-in-place connection-struct E.the-row 4 four-of-five 𝓤 H 𝓜 𝓖 𝓡 (f.clauses 𝓤 H (𝓖 .A) (𝓜 .mem) (𝓡 .run)) code.env #f code.function (code.unfolded 𝓤 H 𝓜 𝓡)
-    (λ fm κs qs b o γ h a g are. walk 𝓤 H (𝓖 .A) (givenOf 𝓤 H 𝓜 𝓖) (𝓜 .mem) (𝓡 .run) (tables 𝓤 H 𝓜 𝓡 code.env .C) (tables 𝓤 H 𝓜 𝓡 code.env .Λ) fm
-    (cited 𝓤 H _ 𝓜 𝓡 code.env #g g-def.routine code.calls-host·reader·feed-in-place (g-thm.met 𝓤 H 𝓜 𝓖 𝓡)) κs qs b o γ h (a .0) (a .1 .0) (a .1 .1 .0) (a .1 .1 .1 .0)
+    meets-in-place connection-struct E.the-row 4 four-of-five 𝓤 H 𝓜 𝓖 𝓡 (f.clauses 𝓤 H (𝓖 .A) (𝓜 .mem) (𝓡 .run)) f.Code.env f.Key.name f.Code.function (f.Code.unfolded 𝓤 H 𝓜 𝓡)
+    (λ fm κs qs b o γ h a g are. walk 𝓤 H (𝓖 .A) (givenOf 𝓤 H 𝓜 𝓖) (𝓜 .mem) (𝓡 .run) (tables 𝓤 H 𝓜 𝓡 f.Code.env .C) (tables 𝓤 H 𝓜 𝓡 f.Code.env .Λ) fm
+    (cited 𝓤 H _ 𝓜 𝓡 f.Code.env g·fn.Symbol.name g·fn.Symbol.routine f.Code.calls-host·reader·feed-in-place (g·fn.Met.met 𝓤 H 𝓜 𝓖 𝓡)) κs qs b o γ h (a .0) (a .1 .0) (a .1 .1 .0) (a .1 .1 .1 .0)
     (others-fit four-of-five 𝓤 H (𝓖 .A) (givenOf 𝓤 H 𝓜 𝓖) κs a _ are))

@@ -3,34 +3,21 @@ use Rattle.walks.proofs.Words.{refl, ap, ℕ, List, [], _∷_}
 use Rattle.walks.proofs.Walk.{URA, fullShare, Val, vptr, SProp, emp, GName, fat, Memory, Routine, Heap, Calls, Loops, WpFn, Atoms, Fun, factI, Lfts, Shares, givenOf, tables, Given, Sq, prop, ‵, _$_, !, move, rewrite, look, look-raw, init, store-raw, forget, stop, hop, fld, from, load, addr, of-opd, and-then, no-more, assigns, land, returns, enter, alloc1, alloc0, params1, pass1, pass0, free1, free0, agg, whole, sub, look-in, FmC, Typed, mirs, RefT, typesAt, only, Triple, cited}
 use denote.Struct.Laws as LL
 use denote.Enum.Laws as EL
-use Rattle.capsule.specs.declared.reader.Reader.{Reader}
+use Rattle.host.proofs.Terms.{Reader, four, four-of-five, others-fit, valued, calls-by-value, Ensures, EntryInPlace, OwedInPlace, ends-in-place, meets-in-place, opens-struct, closes-struct, sv, typedOf}
 use Rattle.capsule.proofs.reader.FeedAnswer as E
 use Rattle.capsule.proofs.reader.FeedAnswer.Laws as E′
 use Rattle.capsule.proofs.reader.Fed as P
 use Rattle.capsule.proofs.reader.Fed.Laws as P′
-use Rattle.capsule.proofs.reader.Reader.feed.Symbol as g-def
-use Rattle.capsule.proofs.reader.Reader.feed.Symbol.{name as #g}
-use Rattle.capsule.proofs.reader.Reader.feed.Met as g-thm
-use Rattle.host.proofs.reader.feed_in_place.Key.{name as #f}
+use Rattle.capsule.proofs.reader.Reader.feed as g·fn
 use Rattle.host.proofs.reader.feed_in_place as f
-use Rattle.host.proofs.reader.feed_in_place.Statement as stated
-use Rattle.host.proofs.reader.feed_in_place.Code as code
-use Rattle.walks.proofs.Beside.{four, four-of-five, others-fit}
-use Rattle.walks.proofs.ByValue.{valued, calls-by-value}
-use Rattle.walks.proofs.Calling.{Ensures}
-use Rattle.host.proofs.Facts.{FeedsValue}
-use Rattle.walks.proofs.InPlace.{EntryInPlace, OwedInPlace, ends-in-place, meets-in-place}
-use Rattle.walks.proofs.Lending.{opens-struct, closes-struct}
-use Rattle.walks.proofs.Lying.{sv}
-use Rattle.walks.proofs.Plain.{typedOf}
-use Rattle.host.proofs.Structs.{reader-struct}
+use Rattle.host.proofs.{Facts.FeedsValue, Structs.reader-struct}
 
-module _ {M : Type 1} (𝓤 : URA M) (H : Heap 𝓤) (A : Atoms 𝓤) (W : Given 𝓤 H A) (at-mem : Memory → SProp 𝓤) (run : Routine → Fun 𝓤) (C : Calls 𝓤 H) (Λ : Loops 𝓤 H) (fm : FmC 𝓤 H (W .laws) C) (known : Triple 𝓤 (C #g) (Ensures (valued reader-struct P.the-row 4 four) FeedsValue 𝓤 H A)) (κs : Lfts 5) (qs : Shares 5) (b o : ℕ) (γ : GName) (h : Reader) (p s z w : RefT (List ℕ)) where
+module _ {M : Type 1} (𝓤 : URA M) (H : Heap 𝓤) (A : Atoms 𝓤) (W : Given 𝓤 H A) (at-mem : Memory → SProp 𝓤) (run : Routine → Fun 𝓤) (C : Calls 𝓤 H) (Λ : Loops 𝓤 H) (fm : FmC 𝓤 H (W .laws) C) (known : Triple 𝓤 (C g·fn.Symbol.name) (Ensures (valued reader-struct P.the-row 4 four) FeedsValue 𝓤 H A)) (κs : Lfts 5) (qs : Shares 5) (b o : ℕ) (γ : GName) (h : Reader) (p s z w : RefT (List ℕ)) where
   walk : Typed (mirs (typesAt (four-of-five .slots) κs)) (sv p ∷ sv s ∷ sv z ∷ sv w ∷ [])
       → Sq W (EntryInPlace reader-struct E.the-row 4 four-of-five 𝓤 H A W (f.clauses 𝓤 H A at-mem run) κs qs b o γ h (p, (s, (z, (w, tt)))) tt)
-      (prop (WpFn 𝓤 H C Λ code.function (vptr b o ∷ sv p ∷ sv s ∷ sv z ∷ sv w ∷ []) (OwedInPlace reader-struct E.the-row 4 four-of-five 𝓤 H A W (f.clauses 𝓤 H A at-mem run) κs qs b o γ h (p, (s, (z, (w, tt)))) tt)))
+      (prop (WpFn 𝓤 H C Λ f.Code.function (vptr b o ∷ sv p ∷ sv s ∷ sv z ∷ sv w ∷ []) (OwedInPlace reader-struct E.the-row 4 four-of-five 𝓤 H A W (f.clauses 𝓤 H A at-mem run) κs qs b o γ h (p, (s, (z, (w, tt)))) tt)))
   walk fit =
-      enter ! C Λ code.function (vptr b o ∷ sv p ∷ sv s ∷ sv z ∷ sv w ∷ []) _ $
+      enter ! C Λ f.Code.function (vptr b o ∷ sv p ∷ sv s ∷ sv z ∷ sv w ∷ []) _ $
       alloc1 ! (λ l₀. alloc1 ! (λ l₁. alloc1 ! (λ l₂. alloc1 ! (λ l₃. alloc1 ! (λ l₄. alloc1 ! (λ l₅. alloc1 ! (λ l₆. alloc1 ! (λ l₇. alloc1 ! (λ l₈. alloc1 ! (λ l₉. alloc1 ! (λ l₁₀. alloc1 ! (λ l₁₁. alloc1 ! (λ l₁₂. alloc1 ! (λ l₁₃. alloc0 ! $
       params1 ! $ pass1 ! (init ! 24 refl (tt, tt)) $ pass1 ! (init ! 22 refl (fit .0)) $ pass1 ! (init ! 20 refl (fit .1 .0)) $ pass1 ! (init ! 18 refl (fit .1 .1 .0)) $ pass1 ! (init ! 16 refl (fit .1 .1 .1 .0)) $ pass0 ! $
       move ! (28 ∷ 29 ∷ 30 ∷ []) $ opens-struct reader-struct b o ! tt h (λ was.
@@ -54,10 +41,10 @@ module _ {M : Type 1} (𝓤 : URA M) (H : Heap 𝓤) (A : Atoms 𝓤) (W : Given
       move ! (31 ∷ 32 ∷ 29 ∷ 30 ∷ 27 ∷ 28 ∷ 25 ∷ 26 ∷ 23 ∷ 24 ∷ 21 ∷ 22 ∷ 19 ∷ 20 ∷ 17 ∷ 18 ∷ 15 ∷ 16 ∷ 13 ∷ 14 ∷ 11 ∷ 12 ∷ 9 ∷ 10 ∷ 7 ∷ 8 ∷ 5 ∷ 6 ∷ []) $ free1 ! $ free1 ! $ free1 ! $ free1 ! $ free1 ! $ free1 ! $ free1 ! $ free1 ! $ free1 ! $ free1 ! $ free1 ! $ free1 ! $ free1 ! $ free1 ! $ free0 ! $
       ends-in-place reader-struct E.the-row 4 four-of-five 𝓤 H A W (f.clauses 𝓤 H A at-mem run) κs qs b o γ h (p, (s, (z, (w, tt)))) tt ! _ (r .answer) (r .reader) ws (factI 𝓤 _ (emp 𝓤) e) (EL.makes E.the-type E′.the-plain 𝓤 H A) (LL.owed P.the-type P′.the-laws r _ is .1 .0)))))))))))))))))
 
-pub feed-in-place-spec : {M : Type 1} → stated.statement M
-unfolding code.routine
+pub feed-in-place-spec : {M : Type 1} → f.Statement.statement M
+unfolding f.Code.routine
 feed-in-place-spec 𝓤 H 𝓜 𝓖 𝓡 =
-    meets-in-place reader-struct E.the-row 4 four-of-five 𝓤 H 𝓜 𝓖 𝓡 (f.clauses 𝓤 H (𝓖 .A) (𝓜 .mem) (𝓡 .run)) code.env #f code.function (code.unfolded 𝓤 H 𝓜 𝓡)
-    (λ fm κs qs b o γ h a g are. walk 𝓤 H (𝓖 .A) (givenOf 𝓤 H 𝓜 𝓖) (𝓜 .mem) (𝓡 .run) (tables 𝓤 H 𝓜 𝓡 code.env .C) (tables 𝓤 H 𝓜 𝓡 code.env .Λ) fm
-    (cited 𝓤 H _ 𝓜 𝓡 code.env #g g-def.routine code.calls-capsule·reader·Reader·feed (g-thm.met 𝓤 H 𝓜 𝓖 𝓡)) κs qs b o γ h (a .0) (a .1 .0) (a .1 .1 .0) (a .1 .1 .1 .0)
+    meets-in-place reader-struct E.the-row 4 four-of-five 𝓤 H 𝓜 𝓖 𝓡 (f.clauses 𝓤 H (𝓖 .A) (𝓜 .mem) (𝓡 .run)) f.Code.env f.Key.name f.Code.function (f.Code.unfolded 𝓤 H 𝓜 𝓡)
+    (λ fm κs qs b o γ h a g are. walk 𝓤 H (𝓖 .A) (givenOf 𝓤 H 𝓜 𝓖) (𝓜 .mem) (𝓡 .run) (tables 𝓤 H 𝓜 𝓡 f.Code.env .C) (tables 𝓤 H 𝓜 𝓡 f.Code.env .Λ) fm
+    (cited 𝓤 H _ 𝓜 𝓡 f.Code.env g·fn.Symbol.name g·fn.Symbol.routine f.Code.calls-capsule·reader·Reader·feed (g·fn.Met.met 𝓤 H 𝓜 𝓖 𝓡)) κs qs b o γ h (a .0) (a .1 .0) (a .1 .1 .0) (a .1 .1 .1 .0)
     (others-fit four-of-five 𝓤 H (𝓖 .A) (givenOf 𝓤 H 𝓜 𝓖) κs a _ are))

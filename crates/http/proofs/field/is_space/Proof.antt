@@ -1,6 +1,6 @@
-use mathlib.Core.Path.{refl}
-use Rattle.http.proofs.field.is_space.Statement.{statement}
-use Rattle.http.proofs.field.is_space.Tie as tie
+-- The test is the definition.
+use Rattle.walks.proofs.Words.{refl}
+use Rattle.http.proofs.field.is_space as this
 
-pub is-space-spec : {M : Type 1} → statement M
-is-space-spec = tie.close (tie.spec (λ c. refl))
+pub is-space-spec : {M : Type 1} → this.Statement.statement M
+is-space-spec = this.Tie.close (this.Tie.spec (λ c. refl))

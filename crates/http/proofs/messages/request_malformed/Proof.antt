@@ -1,8 +1,7 @@
-use borrow.Author.Needs.{needs}
-use Rattle.http.specs.Messages.{requestMalformed}
-use Rattle.http.proofs.messages.request_malformed.Statement.{statement}
-use Rattle.http.proofs.messages.request_malformed.Tie as tie
+use Rattle.walks.proofs.Words.{needs}
+use Rattle.http.proofs.Terms.{requestMalformed}
+use Rattle.http.proofs.messages.request_malformed as this
 
-pub request-malformed-spec : {M : Type 1} → statement M
+pub request-malformed-spec : {M : Type 1} → this.Statement.statement M
 unfolding requestMalformed
-request-malformed-spec = tie.close (tie.spec (λ c. search needs) (λ c. search needs) (λ c. search needs))
+request-malformed-spec = this.Tie.close (this.Tie.spec (λ c. search needs) (λ c. search needs) (λ c. search needs))

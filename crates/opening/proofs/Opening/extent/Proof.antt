@@ -1,17 +1,12 @@
+-- By cases of the kind; an address value by its length.
 use Rattle.walks.proofs.Words.{le-leb, lt-leb, sym, _∙_, needs}
-use Rattle.addresses.specs.Addresses.{longestAddressValue}
-use Rattle.opening.specs.Kinds.{extentBy, extentOf}
-use Rattle.opening.proofs.Opening.extent.Statement.{statement}
-use Rattle.opening.proofs.Opening.extent.Tie as tie
+use Rattle.opening.proofs.Terms.{longestAddressValue, extentBy, extentOf}
+use Rattle.opening.proofs.Opening.extent as this
 
-pub extent-spec : {M : Type 1} → statement M
+pub extent-spec : {M : Type 1} → this.Statement.statement M
 unfolding extentOf extentBy longestAddressValue
 extent-spec =
-    tie.close
-    (tie.spec
-    (λ c κs. search needs)
-    (λ c. search needs)
-    (λ c. search needs)
+    this.Tie.close (this.Tie.spec (λ c κs. search needs) (λ c. search needs) (λ c. search needs)
     (λ c. rw (sym (c .before .before .before .kind .ensures) ∙ c .before .enum-told2 .given .1, le-leb _ _ (c .if1 .taken)))
     (λ c. search needs)
     (λ c. rw (sym (c .before .before .kind .ensures) ∙ c .enum-told .given .1))

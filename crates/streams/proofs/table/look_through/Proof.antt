@@ -1,65 +1,30 @@
 -- `look_through` meets its contract: a walk of its code, with a loop and a branch in it. `seen` is opened once, before the loop, and shut after it; `rows` is opened only to read a record, and a copy of it is passed to `occupied` and to `stands_below`.
 -- The invariant, up to the place that `occupied` answers: `known` is what the records below place i say, and `seen` marks their buckets.
 -- Assumes nothing.
-use Rattle.walks.proofs.Words.{_≡_, refl, sym, ap, subst, _∙_, ℕ, _+_, _-_, _<_, _≤_, arith, Bool, true, false, List, [], _∷_, WellFounded, InvImage·wf, ltb, lit<, length, getD, set, take, Nat·lt-wfRel, is-true, is-false, ltb-true, ltb-false}
-use Rattle.walks.proofs.Walk.{URA, fullShare, unsigned, tyBool, tyPtr, int, op2, add, vbool, SProp, ent, sep, id⊢, Lft, GName, Share, ftrue, fat, froom, fdies, flft, fobs, fauth, fbor, fobor, Memory, Routine, Heap, Out, Env, Calls, Loops, Wp, WpFn, Tables, afterSeq, afterBlock, afterTurn, atReturn, Atoms, sem, Fun, givenOf, tables, tablesOf, Given, Item, Post as Outs, Sq, Go, mean, runs, lands, anyQ, atRet, ‵, raw, _⊛_, ⋆, _$_, _∵_, !, qed, by, move, keep, drop, use1, use2, split, join, rewrite, fsplit, fjoin, suffices, frame, done, whole, sub, look-in, Opds, look, store, init, forget, stop, hop, fld, from, load, lit, of-opd, bin, and-then, no-more, assigns, assigns-last, stays, leaves-loop, branches, first, blocks, land, land-last, exec, Below, again, loops, returns, enter, alloc1, alloc0, params1, pass1, pass0, free1, free0, FmC, owns, pureI, Is, shows, uint-vals, uint-tells, uint-makes, uint-lawful, bool-vals, bool-tells, u8, usize, RefT, sliceTy, sliceVal, ShrSlice, MutSlice, Room, at-slice, heres, codedHoleys, slice-vals, shr-slice-tells, mut-slice-tells, shr-slice-copy, Held, place-byte, elem-out, elem-put, opens-slice, closes-slice, plain, only, owned, nothing, Ended, Clauses, Triple, calls-at, Vals, onEntry, cited, says, needs, Stays, stay-none-slice, stay-none, stay-slice, walkOf, AllGo, Walks, ends-at, walked, goes-none-slice, goes-none, goes-slice, yes}
-use package.mir.Syntax.{Ty, Name, Place, Opd, Body, named, mut, w8, w64, tyInt, tyRef, place, copy, seq, call, assign}
+use Rattle.walks.proofs.Words.{_≡_, refl, sym, ap, subst, _∙_, ℕ, _+_, _-_, _<_, arith, Bool, true, false, List, [], _∷_, ltb, lit<, length, getD, set, is-true, is-false, ltb-true, ltb-false}
+use Rattle.walks.proofs.Walk.{URA, fullShare, unsigned, tyBool, tyPtr, int, op2, add, vbool, SProp, ent, Lft, GName, Share, ftrue, fat, froom, fdies, flft, fobs, fauth, fbor, fobor, Memory, Routine, Heap, Out, Env, Calls, Wp, WpFn, Tables, afterSeq, afterBlock, afterTurn, atReturn, Atoms, Fun, givenOf, tables, tablesOf, Given, Item, Sq, runs, anyQ, atRet, ‵, _⊛_, ⋆, _$_, _∵_, !, qed, by, move, keep, drop, split, join, rewrite, fsplit, fjoin, suffices, frame, done, whole, sub, look-in, look, store, init, forget, stop, hop, fld, from, load, lit, of-opd, bin, and-then, no-more, assigns, assigns-last, stays, leaves-loop, branches, first, blocks, land, land-last, exec, Below, again, loops, returns, enter, alloc1, alloc0, params1, pass1, pass0, free1, free0, FmC, owns, pureI, Is, shows, uint-vals, uint-tells, uint-makes, uint-lawful, u8, usize, RefT, sliceTy, sliceVal, ShrSlice, MutSlice, Room, at-slice, heres, codedHoleys, slice-vals, shr-slice-tells, mut-slice-tells, Held, place-byte, elem-out, elem-put, opens-slice, closes-slice, plain, only, owned, nothing, Triple, Vals, onEntry, cited, says, needs, Stays, stay-none-slice, stay-none, stay-slice, walkOf, AllGo, Walks, ends-at, walked, goes-none-slice, goes-none, goes-slice, yes}
+use package.mir.Syntax.{Ty, Body, named, mut, w8, w64, tyInt, tyRef, place, copy, assign}
 use package.mir.Val.{Val, vint, vptr}
 use denote.Index.{row}
 use denote.Struct.Laws as LL
-use Rattle.streams.specs.declared.record.StreamRecord.{StreamRecord}
-use Rattle.streams.specs.Records.{blank}
-use Rattle.streams.specs.Tables.{standsIn}
-use Rattle.streams.proofs.record.StreamRecord as R
-use Rattle.streams.proofs.record.StreamRecord.Laws as R′
-use Rattle.wire.specs.declared.units.Quarter.{Quarter}
+use Rattle.streams.proofs.Terms.{StreamRecord, blank, Quarter, Survey, surveyOf, fitting, by-walk, Occupied, Surveyed, fits-within, inside, searched-within, surveyed-first, surveyed-used, surveyed-free, surveyed-end}
+use Rattle.stream_records.proofs.record.StreamRecord as R
+use Rattle.stream_records.proofs.record.StreamRecord.Laws as R′
 use Rattle.wire.proofs.units.Quarter as Q
 use Rattle.wire.proofs.units.Quarter.Laws as Q′
-use Rattle.streams.proofs.record.StreamRecord.is_used.Symbol as is-used-def
-use Rattle.streams.proofs.record.StreamRecord.is_used.Symbol.{name as #is-used}
-use Rattle.streams.proofs.record.StreamRecord.is_used.Met as is-used-thm
-use Rattle.streams.specs.declared.survey.Survey.{Survey}
-use Rattle.streams.specs.Code.{surveyOf, fitting}
-use Rattle.streams.proofs.survey.Survey as S
-use Rattle.streams.proofs.survey.Survey.Laws as S′
-use Rattle.streams.proofs.survey.nothing_seen.Symbol as none-def
-use Rattle.streams.proofs.survey.nothing_seen.Symbol.{name as #none}
-use Rattle.streams.proofs.survey.nothing_seen.Met as none-thm
-use Rattle.streams.proofs.survey.fitting.Symbol as fits-def
-use Rattle.streams.proofs.survey.fitting.Symbol.{name as #fits}
-use Rattle.streams.proofs.survey.fitting.Met as fits-thm
-use Rattle.streams.proofs.survey.bucket.Symbol as bucket-def
-use Rattle.streams.proofs.survey.bucket.Symbol.{name as #bucket}
-use Rattle.streams.proofs.survey.bucket.Met as bucket-thm
-use Rattle.streams.proofs.survey.searched_to.Symbol as searched-def
-use Rattle.streams.proofs.survey.searched_to.Symbol.{name as #searched}
-use Rattle.streams.proofs.survey.searched_to.Met as searched-thm
-use Rattle.streams.proofs.table.occupied as occupied
-use Rattle.streams.proofs.table.occupied.Symbol as occupied-def
-use Rattle.streams.proofs.table.occupied.Symbol.{name as #occupied}
-use Rattle.streams.proofs.table.occupied.Met as occupied-thm
+use Rattle.stream_records.proofs.record.StreamRecord.is_used as is-used·fn
+use Rattle.stream_survey.proofs.survey.Survey as S
+use Rattle.stream_survey.proofs.survey.Survey.Laws as S′
+use Rattle.stream_survey.proofs.survey.nothing_seen as none
+use Rattle.stream_survey.proofs.survey.fitting as fits·fn
+use Rattle.stream_survey.proofs.survey.bucket as bucket·fn
+use Rattle.stream_survey.proofs.survey.searched_to as searched
+use Rattle.streams.proofs.table.occupied as occupied·fn
 use Rattle.streams.proofs.table.stands_below as stands
-use Rattle.streams.proofs.table.stands_below.Symbol as stands-def
-use Rattle.streams.proofs.table.stands_below.Symbol.{name as #stands}
-use Rattle.streams.proofs.table.stands_below.Met as stands-thm
-use Rattle.streams.proofs.survey.look_used.Symbol as used-def
-use Rattle.streams.proofs.survey.look_used.Symbol.{name as #used}
-use Rattle.streams.proofs.survey.look_used.Met as used-thm
-use Rattle.streams.proofs.survey.look_free.Symbol as free-def
-use Rattle.streams.proofs.survey.look_free.Symbol.{name as #free}
-use Rattle.streams.proofs.survey.look_free.Met as free-thm
-use Rattle.walks.proofs.Meeting.{by-walk}
-use Rattle.streams.proofs.Words.{Fits, quarter-is}
-use Rattle.walks.proofs.Calls.{ContractOf, Call, After, Tokens, answered}
-use Rattle.streams.proofs.Elements.{rowsTy, rowsRef, rowsVal, Rows, opens-rows, shuts-rows, record-typed, copies-element}
-use Rattle.streams.proofs.Callees.{Ensured, is-used, nothing-seen, fits, bucket, searched-to, look-used, look-free, calls-callee, calls-callee-last}
-use Rattle.streams.proofs.Blanks.{Occupied}
-use Rattle.streams.proofs.Surveying.{Surveyed, fits-within, inside, searched-within, surveyed-first, surveyed-used, surveyed-free, surveyed-end}
-use Rattle.streams.proofs.table.look_through.Key.{name as #f}
+use Rattle.stream_survey.proofs.survey.look_used as used
+use Rattle.stream_survey.proofs.survey.look_free as free
+use Rattle.streams.proofs.{Words.Fits, Words.quarter-is, Reading.occupied, Reading.stands-below, Reading.Meets, Reading.calls-reading, Reading.Falls, Reading.falls-wf, Elements.word, Elements.rowsTy, Elements.rowsRef, Elements.rowsVal, Elements.Rows, Elements.opens-rows, Elements.shuts-rows, Elements.record-typed, Elements.copies-element, Callees.Ensured, Callees.is-used, Callees.nothing-seen, Callees.fits, Callees.bucket, Callees.searched-to, Callees.look-used, Callees.look-free, Callees.calls-callee, Callees.calls-callee-last}
 use Rattle.streams.proofs.table.look_through as this
-use Rattle.streams.proofs.table.look_through.Statement as stated
-use Rattle.streams.proofs.table.look_through.Code as code
-use Rattle.streams.proofs.table.look_through.Code.Mir as mir
 
 abbrev stayed : Stays (this.ended .signature .params) (this.ended .kept)
 stayed = (stay-none-slice (0 ∷ []) tt (plain (λ _. R.the-row)) yes, (stay-none (λ _. Q.the-row) yes, (stay-slice (1 ∷ []) tt (plain (λ _. u8)), tt)))
@@ -69,17 +34,17 @@ abbrev value : Survey → Val
 value s = only (LL.vals S.the-type S′.the-laws s)
 
 -- what is known of the callees
-module _ {M : Type 1} (𝓤 : URA M) (H : Heap 𝓤) (A : Atoms 𝓤) (at-mem : Memory → SProp 𝓤) (run : Routine → Fun 𝓤) (C : Calls 𝓤 H) where
+module _ {M : Type 1} (𝓤 : URA M) (H : Heap 𝓤) (A : Atoms 𝓤) (C : Calls 𝓤 H) where
   record Known : Type 1 where
-    none-met : Triple 𝓤 (C #none) (Ensured nothing-seen 𝓤 H A)
-    fits-met : Triple 𝓤 (C #fits) (Ensured fits 𝓤 H A)
-    is-used-met : Triple 𝓤 (C #is-used) (Ensured is-used 𝓤 H A)
-    bucket-met : Triple 𝓤 (C #bucket) (Ensured bucket 𝓤 H A)
-    searched-met : Triple 𝓤 (C #searched) (Ensured searched-to 𝓤 H A)
-    occupied-met : Triple 𝓤 (C #occupied) (ContractOf 𝓤 H A occupied.ended (occupied.clauses 𝓤 H A at-mem run))
-    stands-met : Triple 𝓤 (C #stands) (ContractOf 𝓤 H A stands.ended (stands.clauses 𝓤 H A at-mem run))
-    used-met : Triple 𝓤 (C #used) (Ensured look-used 𝓤 H A)
-    free-met : Triple 𝓤 (C #free) (Ensured look-free 𝓤 H A)
+    none-met : Triple 𝓤 (C none.Symbol.name) (Ensured nothing-seen 𝓤 H A)
+    fits-met : Triple 𝓤 (C fits·fn.Symbol.name) (Ensured fits 𝓤 H A)
+    is-used-met : Triple 𝓤 (C is-used·fn.Symbol.name) (Ensured is-used 𝓤 H A)
+    bucket-met : Triple 𝓤 (C bucket·fn.Symbol.name) (Ensured bucket 𝓤 H A)
+    searched-met : Triple 𝓤 (C searched.Symbol.name) (Ensured searched-to 𝓤 H A)
+    occupied-met : Triple 𝓤 (C occupied·fn.Symbol.name) (Meets occupied 𝓤 H A)
+    stands-met : Triple 𝓤 (C stands.Symbol.name) (Meets stands-below 𝓤 H A)
+    used-met : Triple 𝓤 (C used.Symbol.name) (Ensured look-used 𝓤 H A)
+    free-met : Triple 𝓤 (C free.Symbol.name) (Ensured look-free 𝓤 H A)
 
 module _ {M : Type 1} (𝓤 : URA M) (H : Heap 𝓤) (A : Atoms 𝓤) (W : Given 𝓤 H A) (at-mem : Memory → SProp 𝓤) (run : Routine → Fun 𝓤) (κ κ₁ : Lft) (q q₁ : Share) (b o b₁ o₁ : ℕ) (γ γ₁ : GName) (ys : List StreamRecord) (quarter : Quarter) (ms₀ : List ℕ)
     (room : Room R.the-row (length ys)) (is-quarter : Is Q.the-row quarter (Q′.lowered quarter ∷ [])) (room₁ : Room u8 (length ms₀)) (size : length ms₀ ≡ 256) where
@@ -118,51 +83,6 @@ module _ {M : Type 1} (𝓤 : URA M) (H : Heap 𝓤) (A : Atoms 𝓤) (W : Given
       owned ! Q.the-row (Is Q.the-row) (LL.makes Q.the-type Q′.the-plain 𝓤 H A) quarter _ is-quarter $ fjoin ! $
       move ! (1 ∷ 0 ∷ []) $ fjoin ! $ frame ! $ owned ! S.the-row (Is S.the-row) (LL.makes S.the-type S′.the-plain 𝓤 H A) r _ is $ done !
 
-  -- ---- the calls of `occupied` and of `stands_below`: a copy of the rows goes with the token, and the token comes back
-
-  module _ {T : Ended} {c : Clauses 𝓤 T} (a : Call 𝓤 H A T c) {C : Calls 𝓤 H} (fm : FmC 𝓤 H (W .laws) C) {f : Name} (met : Triple 𝓤 (C f) (ContractOf 𝓤 H A T c))
-      (asks : ent 𝓤 (sep 𝓤 (sem 𝓤 H A (flft κ q)) (sem 𝓤 H A (Rows κ b o γ ys))) (ContractOf 𝓤 H A T c .pre (a .passed))) (back : ent 𝓤 (mean 𝓤 H A (Tokens 𝓤 H A T c (a .passed))) (mean 𝓤 H A (‵ (flft κ q) ⊛ ‵ ftrue)))
-      {Γ : List (Item 𝓤)} {E : Env 𝓤 H} {Λ : Loops 𝓤 H} {Q : Outs 𝓤 H} {xs : List Opd} {d : Place} {rest : Body} where
-    calls-over : Opds (Go {0}) W (raw (ContractOf 𝓤 H A T c .pre (a .passed)) ∷ ‵ (Rows κ b o γ ys) ∷ Γ) E xs (ContractOf 𝓤 H A T c .args (a .passed)) → After (Go {0}) W (‵ (Rows κ b o γ ys) ∷ ‵ (flft κ q) ∷ Γ) a (λ w. lands C Λ E d w rest Q)
-        → Sq W (‵ (Rows κ b o γ ys) ∷ ‵ (flft κ q) ∷ Γ) (runs C Λ E (seq (call f xs d) rest) Q)
-    calls-over os next =
-        use1 W (‵ (Rows κ b o γ ys) ⊛ ‵ (Rows κ b o γ ys)) (shr-slice-copy 𝓤 H A W (named 0) κ R.the-row .twice x (v ∷ [])) $ split ! $
-        move ! (2 ∷ 0 ∷ []) $ use2 W (raw (ContractOf 𝓤 H A T c .pre (a .passed))) asks $
-        calls-at ! fm (ContractOf 𝓤 H A T c) met (a .passed) os (answered ! a _ (λ w. tt) (λ r p is.
-        use1 W (‵ (flft κ q) ⊛ ‵ ftrue) back $ split ! $ move ! (1 ∷ []) $ drop ! $ move ! (1 ∷ []) $ next r p is))
-
-  abbrev occupied-call : Call 𝓤 H A occupied.ended (occupied.clauses 𝓤 H A at-mem run)
-  occupied-call = record {
-    passed = (((κ, tt), (q, tt), tt, (x, (fitting (length ys), tt)), (v ∷ [], (vint w64 (fitting (length ys)) ∷ [], tt))), tt);
-    Claim = Occupied ys (fitting (length ys));
-    claims = λ r e. id⊢ 𝓤 _;
-    vals = uint-vals w64;
-    tells = uint-tells w64;
-  }
-
-  occupied-asks : Is usize (fitting (length ys)) (vint w64 (fitting (length ys)) ∷ [])
-      → ent 𝓤 (sep 𝓤 (sem 𝓤 H A (flft κ q)) (sem 𝓤 H A (Rows κ b o γ ys))) (ContractOf 𝓤 H A occupied.ended (occupied.clauses 𝓤 H A at-mem run) .pre (occupied-call .passed))
-  occupied-asks is =
-      qed W (‵ (flft κ q) ∷ ‵ (Rows κ b o γ ys) ∷ []) ∵ says ! (fits-within (length ys)) $ nothing ! $ move ! (1 ∷ 0 ∷ []) $ join ! $ frame ! $
-      nothing ! $ owned ! usize (Is usize) (uint-makes 𝓤 H A W w64) (fitting (length ys)) _ is $ fjoin ! $ move ! (1 ∷ 0 ∷ []) $ fjoin ! $ done !
-
-  module _ (place : ℕ) (own : Quarter) where
-    abbrev stands-call : Call 𝓤 H A stands.ended (stands.clauses 𝓤 H A at-mem run)
-    stands-call = record {
-      passed = (((κ, tt), (q, tt), tt, (x, (place, (own, tt))), (v ∷ [], (vint w64 place ∷ [], (Q′.lowered own ∷ [], tt)))), tt);
-      Claim = λ r. r ≡ standsIn (own .0) (take place ys);
-      claims = λ r e. id⊢ 𝓤 _;
-      vals = bool-vals;
-      tells = bool-tells;
-    }
-
-    stands-asks : Is usize place (vint w64 place ∷ []) → Is Q.the-row own (Q′.lowered own ∷ []) → place ≤ length ys
-        → ent 𝓤 (sep 𝓤 (sem 𝓤 H A (flft κ q)) (sem 𝓤 H A (Rows κ b o γ ys))) (ContractOf 𝓤 H A stands.ended (stands.clauses 𝓤 H A at-mem run) .pre (stands-call .passed))
-    stands-asks p f l =
-        qed W (‵ (flft κ q) ∷ ‵ (Rows κ b o γ ys) ∷ []) ∵ says ! l $ nothing ! $ move ! (1 ∷ 0 ∷ []) $ join ! $ frame ! $
-        nothing ! $ owned ! Q.the-row (Is Q.the-row) (LL.makes Q.the-type Q′.the-plain 𝓤 H A) own _ f $ fjoin ! $ owned ! usize (Is usize) (uint-makes 𝓤 H A W w64) place _ p $ fjoin ! $
-        move ! (1 ∷ 0 ∷ []) $ fjoin ! $ done !
-
   module _ (end : ℕ) (end-is : Occupied ys (fitting (length ys)) end) where
     -- where the loop's test is reached: the place, what is known, and the buckets
     abbrev Facts : ℕ × Survey × List ℕ → Type 0
@@ -172,21 +92,9 @@ module _ {M : Type 1} (𝓤 : URA M) (H : Heap 𝓤) (A : Atoms 𝓤) (W : Given
     State = (p : ℕ × Survey × List ℕ) × Facts p
 
     abbrev Nearer : State → State → Type 0
-    Nearer s′ s = end - s′ .0 .0 < end - s .0 .0
+    Nearer = Falls (λ s. end - s .0 .0)
 
-    Nearer-wf : WellFounded Nearer
-    Nearer-wf = InvImage·wf (λ (s : State). end - s .0 .0) (Nat·lt-wfRel .wf)
-
-    module _ (𝓣 : Tables 𝓤 H) (fm : FmC 𝓤 H (W .laws) (𝓣 .C)) (known : Known 𝓤 H A at-mem run (𝓣 .C)) (l₀ l₁ l₂ l₃ l₄ l₅ l₆ l₇ l₈ l₉ l₁₀ l₁₁ l₁₂ l₁₃ l₁₄ l₁₅ l₁₆ l₁₇ l₁₈ l₁₉ l₂₀ : ℕ) where
-      abbrev C : Calls 𝓤 H
-      C = 𝓣 .C
-
-      abbrev Λ : Loops 𝓤 H
-      Λ = 𝓣 .Λ
-
-      abbrev word : Ty
-      word = tyInt w64
-
+    module _ (𝓣 : Tables 𝓤 H) (fm : FmC 𝓤 H (W .laws) (𝓣 .C)) (known : Known 𝓤 H A (𝓣 .C)) (l₀ l₁ l₂ l₃ l₄ l₅ l₆ l₇ l₈ l₉ l₁₀ l₁₁ l₁₂ l₁₃ l₁₄ l₁₅ l₁₆ l₁₇ l₁₈ l₁₉ l₂₀ : ℕ) where
       abbrev slice₁ : Ty
       slice₁ = sliceTy (tyRef (named 1) mut (tyInt w8))
 
@@ -205,13 +113,13 @@ module _ {M : Type 1} (𝓤 : URA M) (H : Heap 𝓤) (A : Atoms 𝓤) (W : Given
       At s = Have (s .0 .0) (s .0 .1) (s .0 .2)
 
       abbrev Turned : State → Out → SProp 𝓤
-      Turned s = afterTurn 𝓤 H (Below 𝓤 H A Nearer At s) (afterBlock 𝓤 H (afterSeq 𝓤 H (Wp 𝓤 H C Λ En mir.t-7 (atReturn 𝓤 H En Post)) (atReturn 𝓤 H En Post)))
+      Turned s = afterTurn 𝓤 H (Below 𝓤 H A Nearer At s) (afterBlock 𝓤 H (afterSeq 𝓤 H (Wp 𝓤 H (𝓣 .C) (𝓣 .Λ) En this.Code.Mir.t-7 (atReturn 𝓤 H En Post)) (atReturn 𝓤 H En Post)))
 
       -- the last statement of a turn
       abbrev raise : Body
       raise = assign (place 7 []) (op2 (add unsigned) (copy (place 7 [])) (int w64 1))
 
-      raises : (s : State) (r : Survey) (ms : List ℕ) → s .0 .0 < end → Surveyed (quarter .0) ys end end-is ms r (s .0 .0 + 1) → Is S.the-row r (value r ∷ []) → Sq W (Have (s .0 .0) r ms) (runs C Λ En raise (anyQ (Turned s)))
+      raises : (s : State) (r : Survey) (ms : List ℕ) → s .0 .0 < end → Surveyed (quarter .0) ys end end-is ms r (s .0 .0 + 1) → Is S.the-row r (value r ∷ []) → Sq W (Have (s .0 .0) r ms) (runs (𝓣 .C) (𝓣 .Λ) En raise (anyQ (Turned s)))
       unfolding afterTurn
       raises s r ms some h is =
           let in-rows : s .0 .0 < length ys = inside (quarter .0) ys end end-is (s .0 .0) some .1 in
@@ -219,7 +127,7 @@ module _ {M : Type 1} (𝓤 : URA M) (H : Heap 𝓤) (A : Atoms 𝓤) (W : Given
           assigns-last ! (bin ! (load ! (from ! (stop !)) (look ! 29 refl)) (lit ! tt) (record { fits = up-fits })) (from ! (stop !)) (store ! 29 refl (tt, record { fits = up-fits })) $
           again ! Nearer At s ((s .0 .0 + 1, r, ms), (h, is)) (omega arith)
 
-      turn-by : (s : State) (y : Bool) → ltb (s .0 .0) end ≡ y → Sq W (At s) (runs C Λ En mir.turn-1 (anyQ (Turned s)))
+      turn-by : (s : State) (y : Bool) → ltb (s .0 .0) end ≡ y → Sq W (At s) (runs (𝓣 .C) (𝓣 .Λ) En this.Code.Mir.turn-1 (anyQ (Turned s)))
       unfolding afterTurn
       turn-by s true e =
           let i : ℕ = s .0 .0 in
@@ -260,8 +168,7 @@ module _ {M : Type 1} (𝓤 : URA M) (H : Heap 𝓤) (A : Atoms 𝓤) (W : Given
           assigns ! (of-opd ! (lit ! tt)) (from ! (hop ! (look ! 5 refl) (stop !))) (store ! 0 refl (tt, record { fits = lit< tt })) $
           move ! (1 ∷ []) $ drop ! $ owned ! u8 (Is u8) (uint-makes 𝓤 H A W w8) 1 _ (refl, lit< tt) $ move ! (1 ∷ 0 ∷ []) $ elem-put ! u8 fullShare (s .0 .2) m 1 (vint w8 1 ∷ []) b₁ o₁ in-seen $
           -- [the buckets; what rows owns; the token; _20 at 3; …]
-          move ! (1 ∷ 2 ∷ 0 ∷ []) $ calls-over (stands-call p (z .quarter)) fm (known .stands-met)
-          (stands-asks p (z .quarter) p-val (quarter-is z gz) (searched-within (quarter .0) ys end end-is (s .0 .2) (s .0 .1) (s .0 .1) i some (s .1 .0) m p (m-is .0) p-is)) (id⊢ 𝓤 _)
+          move ! (1 ∷ 2 ∷ 0 ∷ []) $ calls-reading stands-below 𝓤 H A κ q b o γ ys (p, (z .quarter, tt)) (p-val, (quarter-is z gz, tt)) (searched-within (quarter .0) ys end end-is (s .0 .2) (s .0 .1) (s .0 .1) i some (s .1 .0) m p (m-is .0) p-is) ! fm (known .stands-met)
           (and-then ! (load ! (from ! (stop !)) (look ! 41 refl)) (and-then ! (load ! (from ! (stop !)) (look ! 23 refl)) (and-then ! (load ! (from ! (fld ! refl (stop !))) (look-in ! 27 (sub ! 0 refl (whole !)))) (no-more !)))) (λ twice twice-is twice-val.
           -- [what rows owns; the token; the buckets; _20 at 3; …]
           land ! (from ! (stop !)) (init ! 21 refl (tt, tt)) $
@@ -269,17 +176,17 @@ module _ {M : Type 1} (𝓤 : URA M) (H : Heap 𝓤) (A : Atoms 𝓤) (W : Given
           (and-then ! (load ! (from ! (stop !)) (look ! 32 refl)) (and-then ! (load ! (from ! (stop !)) (look ! 28 refl)) (and-then ! (load ! (from ! (stop !)) (look ! 30 refl)) (and-then ! (load ! (from ! (stop !)) (look ! 22 refl)) (and-then ! (load ! (from ! (stop !)) (look ! 40 refl)) (no-more !)))))) (λ r r-is r-val.
           land-last ! (from ! (stop !)) (store ! 31 refl (LL.lawful S.the-type S′.the-laws 𝓤 H A W .typed r _ r-val .0)) $
           forget ! 3 refl $ forget ! 5 refl $ forget ! 7 refl $ forget ! 9 refl $ forget ! 17 refl $ forget ! 21 refl $ forget ! 23 refl $ forget ! 25 refl $ forget ! 27 refl $
-          exec ! C Λ En raise (anyQ (Turned s)) $
+          exec ! (𝓣 .C) (𝓣 .Λ) En raise (anyQ (Turned s)) $
           raises s r (set (s .0 .2) m 1) some (surveyed-used (quarter .0) ys end end-is (s .0 .2) (s .0 .1) r i some (s .1 .0) m p (m-is .0) p-is twice (sym u-is ∙ is-true u on) twice-is r-is) r-val))))))
           (λ off.
           calls-callee-last look-free ! fm (known .free-met) (s .0 .1, (z, tt)) (s .1 .1, (gz, tt))
           (and-then ! (load ! (from ! (stop !)) (look ! 32 refl)) (and-then ! (load ! (from ! (stop !)) (look ! 28 refl)) (no-more !))) (λ r r-is r-val.
           land-last ! (from ! (stop !)) (store ! 31 refl (LL.lawful S.the-type S′.the-laws 𝓤 H A W .typed r _ r-val .0)) $
-          forget ! 9 refl $ forget ! 17 refl $ forget ! 27 refl $ exec ! C Λ En raise (anyQ (Turned s)) $
+          forget ! 9 refl $ forget ! 17 refl $ forget ! 27 refl $ exec ! (𝓣 .C) (𝓣 .Λ) En raise (anyQ (Turned s)) $
           raises s r (s .0 .2) some (surveyed-free (quarter .0) ys end end-is (s .0 .2) (s .0 .1) r i some (s .1 .0) (sym u-is ∙ is-false u off) r-is) r-val)))))
       turn-by s false e =
           assigns ! (bin ! (load ! (from ! (stop !)) (look ! 29 refl)) (load ! (from ! (stop !)) (look ! 33 refl)) tt) (from ! (stop !)) (init ! 17 refl (tt, tt)) $
-          rewrite ! 17 (λ (y : Bool). ‵ (fat fullShare tyBool l₁₃ 0 (vbool y))) e refl $ leaves-loop ! (load ! (from ! (stop !)) (look ! 17 refl)) $ exec ! C Λ En mir.t-7 (atRet En Post) $
+          rewrite ! 17 (λ (y : Bool). ‵ (fat fullShare tyBool l₁₃ 0 (vbool y))) e refl $ leaves-loop ! (load ! (from ! (stop !)) (look ! 17 refl)) $ exec ! (𝓣 .C) (𝓣 .Λ) En this.Code.Mir.t-7 (atRet En Post) $
           assigns ! (of-opd ! (load ! (from ! (stop !)) (look ! 31 refl))) (from ! (stop !)) (init ! 43 refl (LL.lawful S.the-type S′.the-laws 𝓤 H A W .typed (s .0 .1) _ (s .1 .1) .0)) $
           move ! (2 ∷ 45 ∷ 46 ∷ 47 ∷ []) $ closes-slice ! tt u8 ms₀ (s .0 .2) (s .1 .0 .size ∙ sym size) b₁ o₁ $
           -- [obs; bor; the token of seen; what rows owns; the token; _20 at 5; …]
@@ -287,13 +194,13 @@ module _ {M : Type 1} (𝓤 : URA M) (H : Heap 𝓤) (A : Atoms 𝓤) (W : Given
           move ! (45 ∷ 46 ∷ []) $ free1 ! $ move ! (43 ∷ 44 ∷ []) $ free1 ! $ move ! (41 ∷ 42 ∷ []) $ free1 ! $ move ! (39 ∷ 40 ∷ []) $ free1 ! $ move ! (37 ∷ 38 ∷ []) $ free1 ! $ move ! (35 ∷ 36 ∷ []) $ free1 ! $ move ! (33 ∷ 34 ∷ []) $ free1 ! $ move ! (31 ∷ 32 ∷ []) $ free1 ! $ move ! (29 ∷ 30 ∷ []) $ free1 ! $ move ! (27 ∷ 28 ∷ []) $ free1 ! $ move ! (25 ∷ 26 ∷ []) $ free1 ! $ move ! (23 ∷ 24 ∷ []) $ free1 ! $ move ! (21 ∷ 22 ∷ []) $ free1 ! $ move ! (19 ∷ 20 ∷ []) $ free1 ! $ move ! (17 ∷ 18 ∷ []) $ free1 ! $ move ! (15 ∷ 16 ∷ []) $ free1 ! $ move ! (13 ∷ 14 ∷ []) $ free1 ! $ move ! (11 ∷ 12 ∷ []) $ free1 ! $ move ! (9 ∷ 10 ∷ []) $ free1 ! $ move ! (7 ∷ 8 ∷ []) $ free1 ! $ move ! (5 ∷ 6 ∷ []) $ free1 ! $ free0 ! $
           by ! (exits (s .0 .1) (s .0 .2) (surveyed-end (quarter .0) ys end end-is (s .0 .2) (s .0 .1) (s .0 .0) (ltb-false (s .0 .0) end e) (s .1 .0)) (s .1 .0 .size) (s .1 .1))
 
-      begins : (s : State) → Sq W (At s) (runs C Λ En mir.t-6 (atRet En Post))
-      begins s = first ! $ blocks ! $ loops ! 𝓣 Nearer Nearer-wf At (λ u. turn-by u (ltb (u .0 .0) end) refl) s
+      begins : (s : State) → Sq W (At s) (runs (𝓣 .C) (𝓣 .Λ) En this.Code.Mir.t-6 (atRet En Post))
+      begins s = first ! $ blocks ! $ loops ! 𝓣 Nearer (falls-wf _) At (λ u. turn-by u (ltb (u .0 .0) end) refl) s
 
-  walk : (𝓣 : Tables 𝓤 H) → FmC 𝓤 H (W .laws) (𝓣 .C) → Known 𝓤 H A at-mem run (𝓣 .C)
-      → ent 𝓤 (onEntry 𝓤 H A this.signature (κ, (κ₁, tt)) (q, (q₁, tt)) (x, (quarter, (x₁ ms₀, tt))) at) (WpFn 𝓤 H (𝓣 .C) (𝓣 .Λ) code.function args Post)
+  walk : (𝓣 : Tables 𝓤 H) → FmC 𝓤 H (W .laws) (𝓣 .C) → Known 𝓤 H A (𝓣 .C)
+      → ent 𝓤 (onEntry 𝓤 H A this.signature (κ, (κ₁, tt)) (q, (q₁, tt)) (x, (quarter, (x₁ ms₀, tt))) at) (WpFn 𝓤 H (𝓣 .C) (𝓣 .Λ) this.Code.function args Post)
   walk 𝓣 fm known =
-      qed W ((‵ (flft κ q) ⊛ ‵ (flft κ₁ q₁) ⊛ ‵ ftrue) ∷ ‵ (owns (ShrSlice (named 0) κ R.the-row ∷ Q.the-row ∷ MutSlice (named 1) κ₁ u8 ∷ []) (x, (quarter, (x₁ ms₀, tt))) at) ∷ []) ∵ enter ! (𝓣 .C) (𝓣 .Λ) code.function args _ $
+      qed W ((‵ (flft κ q) ⊛ ‵ (flft κ₁ q₁) ⊛ ‵ ftrue) ∷ ‵ (owns (ShrSlice (named 0) κ R.the-row ∷ Q.the-row ∷ MutSlice (named 1) κ₁ u8 ∷ []) (x, (quarter, (x₁ ms₀, tt))) at) ∷ []) ∵ enter ! (𝓣 .C) (𝓣 .Λ) this.Code.function args _ $
       alloc1 ! (λ l₀. alloc1 ! (λ l₁. alloc1 ! (λ l₂. alloc1 ! (λ l₃. alloc1 ! (λ l₄. alloc1 ! (λ l₅. alloc1 ! (λ l₆. alloc1 ! (λ l₇. alloc1 ! (λ l₈. alloc1 ! (λ l₉. alloc1 ! (λ l₁₀. alloc1 ! (λ l₁₁. alloc1 ! (λ l₁₂. alloc1 ! (λ l₁₃. alloc1 ! (λ l₁₄. alloc1 ! (λ l₁₅. alloc1 ! (λ l₁₆. alloc1 ! (λ l₁₇. alloc1 ! (λ l₁₈. alloc1 ! (λ l₁₉. alloc1 ! (λ l₂₀. alloc0 ! $ params1 ! $
       pass1 ! (init ! 38 refl (tt, (tt, (record { fits = room .0 }, tt)))) $ pass1 ! (init ! 36 refl (LL.lawful Q.the-type Q′.the-laws 𝓤 H A W .typed quarter _ is-quarter .0)) $ pass1 ! (init ! 34 refl (tt, (tt, (record { fits = room₁ .0 }, tt)))) $ pass0 ! $
       -- [_20; …; _0; the tokens; what the parameters own]: the borrow of seen is opened
@@ -307,7 +214,7 @@ module _ {M : Type 1} (𝓤 : URA M) (H : Heap 𝓤) (A : Atoms 𝓤) (W : Given
       calls-callee fits ! fm (known .fits-met) (length ys, tt) ((refl, room .0), tt)
       (and-then ! (load ! (from ! (stop !)) (look ! 36 refl)) (no-more !)) (λ n n-is n-val.
       land ! (from ! (stop !)) (init ! 19 refl (uint-lawful 𝓤 H A W w64 .typed n _ n-val .0)) $ rewrite ! 19 (λ (m : ℕ). ‵ (fat fullShare (tyInt w64) l₁₂ 0 (vint w64 m))) n-is refl $
-      calls-over occupied-call fm (known .occupied-met) (occupied-asks (subst (λ (m : ℕ). Is usize m (vint w64 m ∷ [])) n-is n-val)) (id⊢ 𝓤 _)
+      calls-reading occupied 𝓤 H A κ q b o γ ys (fitting (length ys), tt) (subst (λ (m : ℕ). Is usize m (vint w64 m ∷ [])) n-is n-val, tt) (fits-within (length ys)) ! fm (known .occupied-met)
       (and-then ! (load ! (from ! (stop !)) (look ! 41 refl)) (and-then ! (load ! (from ! (stop !)) (look ! 19 refl)) (no-more !))) (λ end end-is end-val.
       land ! (from ! (stop !)) (init ! 33 refl (uint-lawful 𝓤 H A W w64 .typed end _ end-val .0)) $
       calls-callee nothing-seen ! fm (known .none-met) (length ys, tt) ((refl, room .0), tt)
@@ -317,8 +224,8 @@ module _ {M : Type 1} (𝓤 : URA M) (H : Heap 𝓤) (A : Atoms 𝓤) (W : Given
       begins end end-is 𝓣 fm known l₀ l₁ l₂ l₃ l₄ l₅ l₆ l₇ l₈ l₉ l₁₀ l₁₁ l₁₂ l₁₃ l₁₄ l₁₅ l₁₆ l₁₇ l₁₈ l₁₉ l₂₀ ((0, s, ms₀), (surveyed-first (quarter .0) ys end end-is ms₀ s size s-is, s-val))))))))))))))))))))))))))
 
 module _ {M : Type 1} (𝓤 : URA M) (H : Heap 𝓤) (A : Atoms 𝓤) (W : Given 𝓤 H A) (at-mem : Memory → SProp 𝓤) (run : Routine → Fun 𝓤) where
-  f-walks : (𝓣 : Tables 𝓤 H) → FmC 𝓤 H (W .laws) (𝓣 .C) → Known 𝓤 H A at-mem run (𝓣 .C) → Walks 𝓤 H A this.ended stayed (WpFn 𝓤 H (𝓣 .C) (𝓣 .Λ) code.function) (this.clauses 𝓤 H A at-mem run)
-  f-walks 𝓣 fm known = walked 𝓤 H A this.ended stayed (this.clauses 𝓤 H A at-mem run) (WpFn 𝓤 H (𝓣 .C) (𝓣 .Λ) code.function) (λ κs. (slice-vals, (LL.vals Q.the-type Q′.the-laws, (slice-vals, tt)))) (λ κs. (shr-slice-tells (named 0) (κs .0) R.the-row, (LL.tells Q.the-type Q′.the-laws, (mut-slice-tells (named 1) (κs .1 .0) u8, tt))))
+  f-walks : (𝓣 : Tables 𝓤 H) → FmC 𝓤 H (W .laws) (𝓣 .C) → Known 𝓤 H A (𝓣 .C) → Walks 𝓤 H A this.ended stayed (WpFn 𝓤 H (𝓣 .C) (𝓣 .Λ) this.Code.function) (this.clauses 𝓤 H A at-mem run)
+  f-walks 𝓣 fm known = walked 𝓤 H A this.ended stayed (this.clauses 𝓤 H A at-mem run) (WpFn 𝓤 H (𝓣 .C) (𝓣 .Λ) this.Code.function) (λ κs. (slice-vals, (LL.vals Q.the-type Q′.the-laws, (slice-vals, tt)))) (λ κs. (shr-slice-tells (named 0) (κs .0) R.the-row, (LL.tells Q.the-type Q′.the-laws, (mut-slice-tells (named 1) (κs .1 .0) u8, tt))))
       (λ κs qs bounds a g are. needs 𝓤 (length (a .1 .1 .0 .now) ≡ 256) _ (λ size.
       walk 𝓤 H A W at-mem run (κs .0) (κs .1 .0) (qs .0) (qs .1 .0) (a .0 .ptr .0) (a .0 .ptr .1) (a .1 .1 .0 .ptr .0) (a .1 .1 .0 .ptr .1) (a .0 .name) (a .1 .1 .0 .name)
       (a .0 .now) (a .1 .0) (a .1 .1 .0 .now) (are .0 .0 .1) (are .1 .0) (are .1 .1 .0 .0 .1) size 𝓣 fm known))
@@ -326,18 +233,18 @@ module _ {M : Type 1} (𝓤 : URA M) (H : Heap 𝓤) (A : Atoms 𝓤) (W : Given
   goes : AllGo 𝓤 H A W 2 (this.signature .params) (this.ended .kept) stayed
   goes = (goes-none-slice 𝓤 H A W 2 (0 ∷ []) tt (plain (λ _. R.the-row)) yes, (goes-none 𝓤 H A W 2 (λ _. Q.the-row) yes (λ κs x f. refl), (goes-slice 𝓤 H A W 2 1 tt (plain (λ _. u8)), tt)))
 
-pub look-through-spec : {M : Type 1} → stated.statement M
-unfolding code.routine tablesOf
+pub look-through-spec : {M : Type 1} → this.Statement.statement M
+unfolding this.Code.routine tablesOf
 look-through-spec 𝓤 H 𝓜 𝓖 𝓡 =
-    by-walk this.ended stayed 𝓤 H 𝓜 𝓖 𝓡 code.env #f code.function (code.unfolded 𝓤 H 𝓜 𝓡) (this.clauses 𝓤 H (𝓖 .A) (𝓜 .mem) (𝓡 .run)) (goes 𝓤 H (𝓖 .A) (givenOf 𝓤 H 𝓜 𝓖) (𝓜 .mem) (𝓡 .run))
-    (λ fm. f-walks 𝓤 H (𝓖 .A) (givenOf 𝓤 H 𝓜 𝓖) (𝓜 .mem) (𝓡 .run) (tablesOf 𝓤 H 𝓜 (tables 𝓤 H 𝓜 𝓡 code.env)) fm record {
-      none-met = cited 𝓤 H _ 𝓜 𝓡 code.env #none none-def.routine code.calls-streams·survey·nothing-seen (none-thm.met 𝓤 H 𝓜 𝓖 𝓡);
-      fits-met = cited 𝓤 H _ 𝓜 𝓡 code.env #fits fits-def.routine code.calls-streams·survey·fitting (fits-thm.met 𝓤 H 𝓜 𝓖 𝓡);
-      is-used-met = cited 𝓤 H _ 𝓜 𝓡 code.env #is-used is-used-def.routine code.calls-streams·record·StreamRecord·is-used (is-used-thm.met 𝓤 H 𝓜 𝓖 𝓡);
-      bucket-met = cited 𝓤 H _ 𝓜 𝓡 code.env #bucket bucket-def.routine code.calls-streams·survey·bucket (bucket-thm.met 𝓤 H 𝓜 𝓖 𝓡);
-      searched-met = cited 𝓤 H _ 𝓜 𝓡 code.env #searched searched-def.routine code.calls-streams·survey·searched-to (searched-thm.met 𝓤 H 𝓜 𝓖 𝓡);
-      occupied-met = cited 𝓤 H (ContractOf 𝓤 H (𝓖 .A) occupied.ended (occupied.clauses 𝓤 H (𝓖 .A) (𝓜 .mem) (𝓡 .run))) 𝓜 𝓡 code.env #occupied occupied-def.routine code.calls-streams·table·occupied (occupied-thm.met 𝓤 H 𝓜 𝓖 𝓡);
-      stands-met = cited 𝓤 H (ContractOf 𝓤 H (𝓖 .A) stands.ended (stands.clauses 𝓤 H (𝓖 .A) (𝓜 .mem) (𝓡 .run))) 𝓜 𝓡 code.env #stands stands-def.routine code.calls-streams·table·stands-below (stands-thm.met 𝓤 H 𝓜 𝓖 𝓡);
-      used-met = cited 𝓤 H _ 𝓜 𝓡 code.env #used used-def.routine code.calls-streams·survey·look-used (used-thm.met 𝓤 H 𝓜 𝓖 𝓡);
-      free-met = cited 𝓤 H _ 𝓜 𝓡 code.env #free free-def.routine code.calls-streams·survey·look-free (free-thm.met 𝓤 H 𝓜 𝓖 𝓡);
+    by-walk this.ended stayed 𝓤 H 𝓜 𝓖 𝓡 this.Code.env this.Key.name this.Code.function (this.Code.unfolded 𝓤 H 𝓜 𝓡) (this.clauses 𝓤 H (𝓖 .A) (𝓜 .mem) (𝓡 .run)) (goes 𝓤 H (𝓖 .A) (givenOf 𝓤 H 𝓜 𝓖) (𝓜 .mem) (𝓡 .run))
+    (λ fm. f-walks 𝓤 H (𝓖 .A) (givenOf 𝓤 H 𝓜 𝓖) (𝓜 .mem) (𝓡 .run) (tablesOf 𝓤 H 𝓜 (tables 𝓤 H 𝓜 𝓡 this.Code.env)) fm record {
+      none-met = cited 𝓤 H _ 𝓜 𝓡 this.Code.env none.Symbol.name none.Symbol.routine this.Code.calls-stream-survey·survey·nothing-seen (none.Met.met 𝓤 H 𝓜 𝓖 𝓡);
+      fits-met = cited 𝓤 H _ 𝓜 𝓡 this.Code.env fits·fn.Symbol.name fits·fn.Symbol.routine this.Code.calls-stream-survey·survey·fitting (fits·fn.Met.met 𝓤 H 𝓜 𝓖 𝓡);
+      is-used-met = cited 𝓤 H _ 𝓜 𝓡 this.Code.env is-used·fn.Symbol.name is-used·fn.Symbol.routine this.Code.calls-stream-records·record·StreamRecord·is-used (is-used·fn.Met.met 𝓤 H 𝓜 𝓖 𝓡);
+      bucket-met = cited 𝓤 H _ 𝓜 𝓡 this.Code.env bucket·fn.Symbol.name bucket·fn.Symbol.routine this.Code.calls-stream-survey·survey·bucket (bucket·fn.Met.met 𝓤 H 𝓜 𝓖 𝓡);
+      searched-met = cited 𝓤 H _ 𝓜 𝓡 this.Code.env searched.Symbol.name searched.Symbol.routine this.Code.calls-stream-survey·survey·searched-to (searched.Met.met 𝓤 H 𝓜 𝓖 𝓡);
+      occupied-met = cited 𝓤 H _ 𝓜 𝓡 this.Code.env occupied·fn.Symbol.name occupied·fn.Symbol.routine this.Code.calls-streams·table·occupied (occupied·fn.Met.met 𝓤 H 𝓜 𝓖 𝓡);
+      stands-met = cited 𝓤 H _ 𝓜 𝓡 this.Code.env stands.Symbol.name stands.Symbol.routine this.Code.calls-streams·table·stands-below (stands.Met.met 𝓤 H 𝓜 𝓖 𝓡);
+      used-met = cited 𝓤 H _ 𝓜 𝓡 this.Code.env used.Symbol.name used.Symbol.routine this.Code.calls-stream-survey·survey·look-used (used.Met.met 𝓤 H 𝓜 𝓖 𝓡);
+      free-met = cited 𝓤 H _ 𝓜 𝓡 this.Code.env free.Symbol.name free.Symbol.routine this.Code.calls-stream-survey·survey·look-free (free.Met.met 𝓤 H 𝓜 𝓖 𝓡);
     })

@@ -5,19 +5,11 @@ use Rattle.walks.proofs.Walk.{URA, fullShare, tyBool, tyPtr, vunit, SProp, ent,
 use package.mir.Syntax.{Ty, named, mut, w64, tyInt, tyUnit, tyRef}
 use package.mir.Val.{Val, vint, vptr}
 use denote.Struct.Laws as LL
-use Rattle.streams.specs.declared.record.StreamRecord.{StreamRecord}
-use Rattle.streams.specs.Records.{blank}
-use Rattle.streams.proofs.record.StreamRecord as R
-use Rattle.streams.proofs.record.StreamRecord.Laws as R′
-use Rattle.walks.proofs.Meeting.{by-walk}
-use Rattle.walks.proofs.Passing.{clears}
-use Rattle.streams.proofs.Words.{Fits, offset-fits}
-use Rattle.streams.proofs.Elements.{record-typed}
-use Rattle.streams.proofs.table.put.Key.{name as #f}
+use Rattle.streams.proofs.Terms.{StreamRecord, blank, by-walk, clears}
+use Rattle.stream_records.proofs.record.StreamRecord as R
+use Rattle.stream_records.proofs.record.StreamRecord.Laws as R′
+use Rattle.streams.proofs.{Words.Fits, Words.offset-fits, Elements.record-typed}
 use Rattle.streams.proofs.table.put as this
-use Rattle.streams.proofs.table.put.Statement as stated
-use Rattle.streams.proofs.table.put.Code as code
-use Rattle.streams.proofs.table.put.Code.Mir as mir
 
 abbrev stayed : Stays (this.ended .signature .params) (this.ended .kept)
 stayed = (stay-slice (0 ∷ []) tt (plain (λ _. R.the-row)), (stay-none (λ _. usize) yes, (stay-none (λ _. R.the-row) yes, tt)))
@@ -65,14 +57,14 @@ module _ {M : Type 1} (𝓤 : URA M) (H : Heap 𝓤) (A : Atoms 𝓤) (W : Given
         ∷ ‵ (fat fullShare R′.mir l₃ 0 (R′.lowered kept)) ∷ ‵ (fdies R′.mir l₃) ∷ ‵ (fat fullShare word l₂ 0 (vint w64 place)) ∷ ‵ (fdies word l₂) ∷ ‵ (fat fullShare slice l₁ 0 v) ∷ ‵ (fdies slice l₁) ∷ ‵ (froom tyUnit l₀ 0) ∷ ‵ (fdies tyUnit l₀) ∷ []
 
     -- after the branch
-    leaves : (zs : List StreamRecord) → zs ≡ set ys place kept → length zs ≡ length ys → Sq W (At zs) (runs C Λ En mir.t-4 (atRet En Post))
+    leaves : (zs : List StreamRecord) → zs ≡ set ys place kept → length zs ≡ length ys → Sq W (At zs) (runs C Λ En this.Code.Mir.t-4 (atRet En Post))
     leaves zs e l =
         assigns ! (of-opd ! (unit-lit !)) (from ! (stop !)) (init ! 17 refl (tt, tt)) $ returns ! (look ! 17 refl) $
         move ! (17 ∷ 18 ∷ []) $ clears ! $ move ! (15 ∷ 16 ∷ []) $ clears ! $ move ! (13 ∷ 14 ∷ []) $ clears ! $ move ! (11 ∷ 12 ∷ []) $ clears ! $
         move ! (9 ∷ 10 ∷ []) $ free1 ! $ move ! (7 ∷ 8 ∷ []) $ free1 ! $ move ! (5 ∷ 6 ∷ []) $ free1 ! $ move ! (3 ∷ 4 ∷ []) $ free1 ! $ free0 ! $
         by ! (exits zs e l)
 
-    chosen : Sq W (At ys) (runs C Λ En mir.t-1 (atRet En Post))
+    chosen : Sq W (At ys) (runs C Λ En this.Code.Mir.t-1 (atRet En Post))
     chosen =
         assigns ! (of-opd ! (load ! (from ! (fld ! refl (stop !))) (look-in ! 15 (sub ! 1 refl (whole !))))) (from ! (stop !)) (init ! 9 refl (tt, record { fits = room .0 })) $
         assigns ! (bin ! (load ! (from ! (stop !)) (look ! 13 refl)) (load ! (from ! (stop !)) (look ! 9 refl)) tt) (from ! (stop !)) (init ! 7 refl (tt, tt)) $
@@ -86,16 +78,16 @@ module _ {M : Type 1} (𝓤 : URA M) (H : Heap 𝓤) (A : Atoms 𝓤) (W : Given
         opens-slice ! tt R.the-row ys b o $ elem-out ! R.the-row (Is R.the-row) (shows 𝓤 H A R.the-row) (LL.vals R.the-type R′.the-laws) (LL.tells R.the-type R′.the-laws) fullShare ys place blank b o within (λ _.
         -- [rows[place]; what it owns; the others; the open borrow; obs; auth; the locals]
         assigns-last ! (of-opd ! (load ! (from ! (stop !)) (look ! 14 refl))) (from ! (hop ! (look ! 6 refl) (stop !))) (store-raw ! 0 refl (record-typed 𝓤 H A W kept kept-is)) $
-        exec ! C Λ En mir.t-4 (atRet En Post) $
+        exec ! C Λ En this.Code.Mir.t-4 (atRet En Post) $
         move ! (1 ∷ []) $ drop ! $ owned ! R.the-row (Is R.the-row) (LL.makes R.the-type R′.the-plain 𝓤 H A) kept _ kept-is $ move ! (1 ∷ 0 ∷ []) $ elem-put ! R.the-row fullShare ys place kept (R′.lowered kept ∷ []) b o within $
         closes-slice ! tt R.the-row ys (set ys place kept) (length-set ys place kept) b o $
         forget ! 3 refl $ forget ! 5 refl $ forget ! 7 refl $ forget ! 9 refl $ leaves (set ys place kept) refl (length-set ys place kept)))
-        (λ off. skips ! $ exec ! C Λ En mir.t-4 (atRet En Post) $ forget ! 7 refl $ forget ! 9 refl $ leaves ys (sym (set-out ys place kept (nltb→le place (length ys) off))) refl)
+        (λ off. skips ! $ exec ! C Λ En this.Code.Mir.t-4 (atRet En Post) $ forget ! 7 refl $ forget ! 9 refl $ leaves ys (sym (set-out ys place kept (nltb→le place (length ys) off))) refl)
 
   module _ (C : Calls 𝓤 H) (Λ : Loops 𝓤 H) where
-    walk : ent 𝓤 (onEntry 𝓤 H A this.signature (κ, tt) (q, tt) (x ys, (place, (kept, tt))) at) (WpFn 𝓤 H C Λ code.function (v ∷ vint w64 place ∷ R′.lowered kept ∷ []) Post)
+    walk : ent 𝓤 (onEntry 𝓤 H A this.signature (κ, tt) (q, tt) (x ys, (place, (kept, tt))) at) (WpFn 𝓤 H C Λ this.Code.function (v ∷ vint w64 place ∷ R′.lowered kept ∷ []) Post)
     walk =
-        qed W ((‵ (flft κ q) ⊛ ‵ ftrue) ∷ ‵ (owns (MutSlice (named 0) κ R.the-row ∷ usize ∷ R.the-row ∷ []) (x ys, (place, (kept, tt))) at) ∷ []) ∵ enter ! C Λ code.function (v ∷ vint w64 place ∷ R′.lowered kept ∷ []) _ $
+        qed W ((‵ (flft κ q) ⊛ ‵ ftrue) ∷ ‵ (owns (MutSlice (named 0) κ R.the-row ∷ usize ∷ R.the-row ∷ []) (x ys, (place, (kept, tt))) at) ∷ []) ∵ enter ! C Λ this.Code.function (v ∷ vint w64 place ∷ R′.lowered kept ∷ []) _ $
         alloc1 ! (λ l₀. alloc1 ! (λ l₁. alloc1 ! (λ l₂. alloc1 ! (λ l₃. alloc1 ! (λ l₄. alloc1 ! (λ l₅. alloc1 ! (λ l₆. alloc1 ! (λ l₇. alloc0 ! $ params1 ! $
         pass1 ! (init ! 12 refl (tt, (tt, (record { fits = room .0 }, tt)))) $ pass1 ! (init ! 10 refl (tt, record { fits = place-fits })) $ pass1 ! (init ! 8 refl (record-typed 𝓤 H A W kept kept-is)) $ pass0 ! $
         move ! (17 ∷ []) $ fsplit ! $ fsplit ! $ drop ! $ fsplit ! $ move ! (19 ∷ []) $ split ! $
@@ -104,16 +96,16 @@ module _ {M : Type 1} (𝓤 : URA M) (H : Heap 𝓤) (A : Atoms 𝓤) (W : Given
         chosen C Λ l₀ l₁ l₂ l₃ l₄ l₅ l₆ l₇))))))))
 
 module _ {M : Type 1} (𝓤 : URA M) (H : Heap 𝓤) (A : Atoms 𝓤) (W : Given 𝓤 H A) (at-mem : Memory → SProp 𝓤) (run : Routine → Fun 𝓤) where
-  f-walks : (C : Calls 𝓤 H) (Λ : Loops 𝓤 H) → Walks 𝓤 H A this.ended stayed (WpFn 𝓤 H C Λ code.function) (this.clauses 𝓤 H A at-mem run)
-  f-walks C Λ = walked 𝓤 H A this.ended stayed (this.clauses 𝓤 H A at-mem run) (WpFn 𝓤 H C Λ code.function) (λ κs. (slice-vals, (uint-vals w64, (LL.vals R.the-type R′.the-laws, tt)))) (λ κs. (mut-slice-tells (named 0) (κs .0) R.the-row, (uint-tells w64, (LL.tells R.the-type R′.the-laws, tt))))
+  f-walks : (C : Calls 𝓤 H) (Λ : Loops 𝓤 H) → Walks 𝓤 H A this.ended stayed (WpFn 𝓤 H C Λ this.Code.function) (this.clauses 𝓤 H A at-mem run)
+  f-walks C Λ = walked 𝓤 H A this.ended stayed (this.clauses 𝓤 H A at-mem run) (WpFn 𝓤 H C Λ this.Code.function) (λ κs. (slice-vals, (uint-vals w64, (LL.vals R.the-type R′.the-laws, tt)))) (λ κs. (mut-slice-tells (named 0) (κs .0) R.the-row, (uint-tells w64, (LL.tells R.the-type R′.the-laws, tt))))
       (λ κs qs bounds a g are. via 𝓤 _ (fst∗ 𝓤 _ (emp 𝓤))
       (walk 𝓤 H A W at-mem run (κs .0) (qs .0) (a .0 .ptr .0) (a .0 .ptr .1) (a .0 .name) (a .0 .now) (a .1 .0) (a .1 .1 .0) (are .0 .0 .1) (are .1 .0 .1) (are .1 .1 .0) C Λ))
 
   goes : AllGo 𝓤 H A W 1 (this.signature .params) (this.ended .kept) stayed
   goes = (goes-slice 𝓤 H A W 1 0 tt (plain (λ _. R.the-row)), (goes-none 𝓤 H A W 1 (λ _. usize) yes (λ κs x f. refl), (goes-none 𝓤 H A W 1 (λ _. R.the-row) yes (λ κs x f. refl), tt)))
 
-pub put-spec : {M : Type 1} → stated.statement M
-unfolding code.routine
+pub put-spec : {M : Type 1} → this.Statement.statement M
+unfolding this.Code.routine
 put-spec 𝓤 H 𝓜 𝓖 𝓡 =
-    by-walk this.ended stayed 𝓤 H 𝓜 𝓖 𝓡 code.env #f code.function (code.unfolded 𝓤 H 𝓜 𝓡) (this.clauses 𝓤 H (𝓖 .A) (𝓜 .mem) (𝓡 .run)) (goes 𝓤 H (𝓖 .A) (givenOf 𝓤 H 𝓜 𝓖) (𝓜 .mem) (𝓡 .run))
-    (λ fm. f-walks 𝓤 H (𝓖 .A) (givenOf 𝓤 H 𝓜 𝓖) (𝓜 .mem) (𝓡 .run) (tables 𝓤 H 𝓜 𝓡 code.env .C) (tables 𝓤 H 𝓜 𝓡 code.env .Λ))
+    by-walk this.ended stayed 𝓤 H 𝓜 𝓖 𝓡 this.Code.env this.Key.name this.Code.function (this.Code.unfolded 𝓤 H 𝓜 𝓡) (this.clauses 𝓤 H (𝓖 .A) (𝓜 .mem) (𝓡 .run)) (goes 𝓤 H (𝓖 .A) (givenOf 𝓤 H 𝓜 𝓖) (𝓜 .mem) (𝓡 .run))
+    (λ fm. f-walks 𝓤 H (𝓖 .A) (givenOf 𝓤 H 𝓜 𝓖) (𝓜 .mem) (𝓡 .run) (tables 𝓤 H 𝓜 𝓡 this.Code.env .C) (tables 𝓤 H 𝓜 𝓡 this.Code.env .Λ))

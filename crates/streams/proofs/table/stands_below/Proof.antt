@@ -1,81 +1,34 @@
 -- `stands_below` meets its contract: a walk of its code, with a loop. The slice is opened once, before the loop, and shut after it; each turn copies one record and hands it to `stands`.
 -- The invariant: what was found is what stands below i.
 -- Assumes nothing.
-use Rattle.walks.proofs.Words.{_≡_, refl, ℕ, _+_, _-_, _<_, _≤_, _^_, arith, Bool, true, false, List, [], _∷_, WellFounded, InvImage·wf, ltb, lit<, length, getD, take, Nat·lt-wfRel, ltb-true, ltb-false}
-use Rattle.walks.proofs.Walk.{URA, fullShare, tyBool, tyPtr, vbool, SProp, ent, Lft, GName, Share, ftrue, fat, froom, fdies, flft, Memory, Routine, Heap, Out, Env, Calls, Loops, Wp, WpFn, Tables, afterSeq, afterBlock, afterTurn, atReturn, Atoms, Fun, givenOf, tables, tablesOf, Given, Item, Sq, runs, anyQ, atRet, ‵, _⊛_, ⋆, _$_, _∵_, !, qed, by, move, keep, split, join, rewrite, fsplit, fjoin, suffices, frame, done, look, store, init, forget, stop, from, load, lit, false-lit, of-opd, bin, and-then, no-more, assigns, assigns-last, stays, leaves-loop, first, blocks, land, exec, Below, again, loops, returns, enter, alloc1, alloc0, params1, pass1, pass0, free1, free0, FmC, owns, Is, uint-vals, uint-tells, uint-makes, bool-makes, bool, usize, RefT, ShrSlice, Room, slice-vals, shr-slice-tells, plain, owned, nothing, Triple, Vals, onEntry, cited, says, needs, Stays, stay-none-slice, stay-none, walkOf, AllGo, Walks, ends-at, walked, goes-none-slice, goes-none, yes}
-use package.mir.Syntax.{Ty, named, w64, tyInt}
+use Rattle.walks.proofs.Words.{_≡_, refl, ℕ, _+_, _-_, _<_, _≤_, _^_, arith, Bool, true, false, List, [], _∷_, ltb, lit<, length, getD, ltb-true, ltb-false}
+use Rattle.walks.proofs.Walk.{URA, prop, drop, fullShare, tyBool, tyPtr, vbool, SProp, Lft, GName, Share, fat, froom, fdies, flft, Heap, Out, Env, Wp, WpFn, Tables, afterSeq, afterBlock, afterTurn, atReturn, Atoms, givenOf, tables, tablesOf, Given, Item, Sq, runs, anyQ, atRet, ‵, _$_, !, move, rewrite, look, store, init, forget, stop, from, load, lit, false-lit, of-opd, bin, and-then, no-more, assigns, assigns-last, stays, leaves-loop, first, blocks, land, exec, Below, again, loops, returns, enter, alloc1, alloc0, params1, pass1, pass0, free1, free0, FmC, Is, Room, Triple, cited}
+use package.mir.Syntax.{w64}
 use package.mir.Val.{Val, vint}
 use denote.Index.{row}
 use denote.Struct.Laws as LL
-use Rattle.streams.specs.declared.record.StreamRecord.{StreamRecord}
-use Rattle.streams.specs.Records.{blank}
-use Rattle.streams.specs.Tables.{standsIn}
-use Rattle.streams.proofs.record.StreamRecord as R
-use Rattle.streams.proofs.record.StreamRecord.Laws as R′
-use Rattle.streams.proofs.survey.stands.Symbol as stands-def
-use Rattle.streams.proofs.survey.stands.Symbol.{name as #stands}
-use Rattle.streams.proofs.survey.stands.Met as stands-thm
-use Rattle.wire.specs.declared.units.Quarter.{Quarter}
+use Rattle.streams.proofs.Terms.{StreamRecord, blank, Quarter, Searched, searched-first, searched-next, searched-end}
+use Rattle.stream_records.proofs.record.StreamRecord as R
+use Rattle.stream_records.proofs.record.StreamRecord.Laws as R′
+use Rattle.stream_survey.proofs.survey.stands as stands·fn
 use Rattle.wire.proofs.units.Quarter as Q
 use Rattle.wire.proofs.units.Quarter.Laws as Q′
-use Rattle.walks.proofs.Meeting.{by-walk}
-use Rattle.streams.proofs.Callees.{Ensured, stands, calls-callee}
-use Rattle.streams.proofs.Surveying.{Searched, searched-first, searched-next, searched-end}
-use Rattle.streams.proofs.Elements.{rowsTy, rowsRef, rowsVal, Rows, Shuts, opens-rows, shuts-rows, record-typed, copies-element}
-use Rattle.streams.proofs.table.stands_below.Key.{name as #f}
+use Rattle.streams.proofs.{Callees.Ensured, Callees.quarter, Callees.stands, Callees.calls-callee, Reading.stands-below, Reading.Owed, Reading.ends-reading, Reading.meets-reading, Reading.Falls, Reading.falls-wf, Elements.word, Elements.rowsTy, Elements.rowsVal, Elements.Rows, Elements.Shuts, Elements.opens-rows, Elements.shuts-rows, Elements.record-typed, Elements.copies-element}
 use Rattle.streams.proofs.table.stands_below as this
-use Rattle.streams.proofs.table.stands_below.Statement as stated
-use Rattle.streams.proofs.table.stands_below.Code as code
-use Rattle.streams.proofs.table.stands_below.Code.Mir as mir
 
-abbrev stayed : Stays (this.ended .signature .params) (this.ended .kept)
-stayed = (stay-none-slice (0 ∷ []) tt (plain (λ _. R.the-row)) yes, (stay-none (λ _. usize) yes, (stay-none (λ _. Q.the-row) yes, tt)))
-
-module _ {M : Type 1} (𝓤 : URA M) (H : Heap 𝓤) (A : Atoms 𝓤) (W : Given 𝓤 H A) (at-mem : Memory → SProp 𝓤) (run : Routine → Fun 𝓤) (κ : Lft) (q : Share) (b o : ℕ) (γ : GName) (ys : List StreamRecord) (place : ℕ) (quarter : Quarter)
+module _ {M : Type 1} (𝓤 : URA M) (H : Heap 𝓤) (A : Atoms 𝓤) (W : Given 𝓤 H A) (𝓣 : Tables 𝓤 H) (fm : FmC 𝓤 H (W .laws) (𝓣 .C)) (known-stands : Triple 𝓤 (𝓣 .C stands·fn.Symbol.name) (Ensured stands 𝓤 H A)) (κ : Lft) (q : Share) (b o : ℕ) (γ : GName) (ys : List StreamRecord) (place : ℕ) (quarter : Quarter)
     (room : Room R.the-row (length ys)) (place-fits : place < 2 ^ 64) (within : place ≤ length ys) (is-quarter : Is Q.the-row quarter (Q′.lowered quarter ∷ [])) where
-  abbrev x : RefT (List StreamRecord)
-  x = rowsRef b o γ ys
-
-  abbrev v : Val
-  v = rowsVal b o ys
-
-  abbrev args : List Val
-  args = v ∷ vint w64 place ∷ Q′.lowered quarter ∷ []
-
-  abbrev at : Vals this.signature (κ, tt)
-  at = (v ∷ [], (vint w64 place ∷ [], (Q′.lowered quarter ∷ [], tt)))
-
   abbrev Post : Val → SProp 𝓤
-  Post = walkOf 𝓤 H A this.ended stayed (this.clauses 𝓤 H A at-mem run) .post (((κ, tt), (q, tt), tt, (x, (place, (quarter, tt))), at), tt)
-
-  exits : (r : Bool) → r ≡ standsIn (quarter .0) (take place ys) → ent 𝓤 (⋆ 𝓤 H A (‵ (Rows κ b o γ ys) ∷ ‵ (flft κ q) ∷ [])) (Post (vbool r))
-  exits r e =
-      qed W (‵ (Rows κ b o γ ys) ∷ ‵ (flft κ q) ∷ []) ∵
-      suffices ! _ (ends-at 𝓤 H A this.ended stayed (this.clauses 𝓤 H A at-mem run) W (((κ, tt), (q, tt), tt, (x, (place, (quarter, tt))), at), tt) (vbool r) r (tt, (tt, (tt, tt))) (tt, (tt, (tt, tt)))) $ says ! e $
-      nothing ! $ move ! (2 ∷ 0 ∷ []) $ join ! $ frame ! $
-      nothing ! $ owned ! Q.the-row (Is Q.the-row) (LL.makes Q.the-type Q′.the-plain 𝓤 H A) quarter _ is-quarter $ fjoin ! $ owned ! usize (Is usize) (uint-makes 𝓤 H A W w64) place _ (refl, place-fits) $ fjoin ! $ move ! (1 ∷ 0 ∷ []) $ fjoin ! $ frame ! $
-      owned ! bool (Is bool) (bool-makes 𝓤 H A W) r _ refl $ done !
+  Post = Owed stands-below 𝓤 H A κ q b o γ ys (place, (quarter, tt))
 
   -- where the loop's test is reached: what was found, and i
   abbrev State : Type 0
   State = (p : Bool × ℕ) × Searched (quarter .0) ys (p .0) (p .1) × p .1 ≤ place
 
   abbrev Nearer : State → State → Type 0
-  Nearer s′ s = place - s′ .0 .1 < place - s .0 .1
+  Nearer = Falls (λ s. place - s .0 .1)
 
-  Nearer-wf : WellFounded Nearer
-  Nearer-wf = InvImage·wf (λ (s : State). place - s .0 .1) (Nat·lt-wfRel .wf)
-
-  module _ (𝓣 : Tables 𝓤 H) (fm : FmC 𝓤 H (W .laws) (𝓣 .C)) (known-stands : Triple 𝓤 (𝓣 .C #stands) (Ensured stands 𝓤 H A)) (q′ : Share) (l₀ l₁ l₂ l₃ l₄ l₅ l₆ l₇ l₈ l₉ l₁₀ : ℕ) where
-    abbrev C : Calls 𝓤 H
-    C = 𝓣 .C
-
-    abbrev Λ : Loops 𝓤 H
-    Λ = 𝓣 .Λ
-
-    abbrev word : Ty
-    word = tyInt w64
-
+  module _ (q′ : Share) (l₀ l₁ l₂ l₃ l₄ l₅ l₆ l₇ l₈ l₉ l₁₀ : ℕ) where
     abbrev En : Env 𝓤 H
     En = (tyBool, l₀) ∷ (rowsTy, l₁) ∷ (word, l₂) ∷ (Q′.mir, l₃) ∷ (word, l₄) ∷ (tyBool, l₅) ∷ (R′.mir, l₆) ∷ (tyBool, l₇) ∷ (word, l₈) ∷ (tyPtr, l₉) ∷ (R′.mir, l₁₀) ∷ []
 
@@ -83,12 +36,12 @@ module _ {M : Type 1} (𝓤 : URA M) (H : Heap 𝓤) (A : Atoms 𝓤) (W : Given
     abbrev At : State → List (Item 𝓤)
     At s = ‵ (row R.the-row q′ ys b o) ∷ ‵ (Shuts κ q b o γ ys q′)
         ∷ ‵ (froom R′.mir l₁₀ 0) ∷ ‵ (fdies R′.mir l₁₀) ∷ ‵ (froom tyPtr l₉ 0) ∷ ‵ (fdies tyPtr l₉) ∷ ‵ (froom word l₈ 0) ∷ ‵ (fdies word l₈) ∷ ‵ (froom tyBool l₇ 0) ∷ ‵ (fdies tyBool l₇) ∷ ‵ (froom R′.mir l₆ 0) ∷ ‵ (fdies R′.mir l₆)
-        ∷ ‵ (fat fullShare tyBool l₅ 0 (vbool (s .0 .0))) ∷ ‵ (fdies tyBool l₅) ∷ ‵ (fat fullShare word l₄ 0 (vint w64 (s .0 .1))) ∷ ‵ (fdies word l₄) ∷ ‵ (fat fullShare Q′.mir l₃ 0 (Q′.lowered quarter)) ∷ ‵ (fdies Q′.mir l₃) ∷ ‵ (fat fullShare word l₂ 0 (vint w64 place)) ∷ ‵ (fdies word l₂) ∷ ‵ (fat fullShare rowsTy l₁ 0 v) ∷ ‵ (fdies rowsTy l₁) ∷ ‵ (froom tyBool l₀ 0) ∷ ‵ (fdies tyBool l₀) ∷ []
+        ∷ ‵ (fat fullShare tyBool l₅ 0 (vbool (s .0 .0))) ∷ ‵ (fdies tyBool l₅) ∷ ‵ (fat fullShare word l₄ 0 (vint w64 (s .0 .1))) ∷ ‵ (fdies word l₄) ∷ ‵ (fat fullShare Q′.mir l₃ 0 (Q′.lowered quarter)) ∷ ‵ (fdies Q′.mir l₃) ∷ ‵ (fat fullShare word l₂ 0 (vint w64 place)) ∷ ‵ (fdies word l₂) ∷ ‵ (fat fullShare rowsTy l₁ 0 (rowsVal b o ys)) ∷ ‵ (fdies rowsTy l₁) ∷ ‵ (froom tyBool l₀ 0) ∷ ‵ (fdies tyBool l₀) ∷ []
 
     abbrev Turned : State → Out → SProp 𝓤
-    Turned s = afterTurn 𝓤 H (Below 𝓤 H A Nearer At s) (afterBlock 𝓤 H (afterSeq 𝓤 H (Wp 𝓤 H C Λ En mir.t-4 (atReturn 𝓤 H En Post)) (atReturn 𝓤 H En Post)))
+    Turned s = afterTurn 𝓤 H (Below 𝓤 H A Nearer At s) (afterBlock 𝓤 H (afterSeq 𝓤 H (Wp 𝓤 H (𝓣 .C) (𝓣 .Λ) En this.Code.Mir.t-4 (atReturn 𝓤 H En Post)) (atReturn 𝓤 H En Post)))
 
-    turn-by : (s : State) (y : Bool) → ltb (s .0 .1) place ≡ y → Sq W (At s) (runs C Λ En mir.turn-1 (anyQ (Turned s)))
+    turn-by : (s : State) (y : Bool) → ltb (s .0 .1) place ≡ y → Sq W (At s) (runs (𝓣 .C) (𝓣 .Λ) En this.Code.Mir.turn-1 (anyQ (Turned s)))
     unfolding afterTurn
     turn-by s true e =
         let known : Bool = s .0 .0 in
@@ -111,41 +64,27 @@ module _ {M : Type 1} (𝓤 : URA M) (H : Heap 𝓤) (A : Atoms 𝓤) (W : Given
         again ! Nearer At s ((r, i + 1), searched-next (quarter .0) ys known r i in-rows r-is (s .1), omega arith) (omega arith)))
     turn-by s false e =
         assigns ! (bin ! (load ! (from ! (stop !)) (look ! 14 refl)) (load ! (from ! (stop !)) (look ! 18 refl)) tt) (from ! (stop !)) (init ! 8 refl (tt, tt)) $
-        rewrite ! 8 (λ (y : Bool). ‵ (fat fullShare tyBool l₇ 0 (vbool y))) e refl $ leaves-loop ! (load ! (from ! (stop !)) (look ! 8 refl)) $ exec ! C Λ En mir.t-4 (atRet En Post) $
+        rewrite ! 8 (λ (y : Bool). ‵ (fat fullShare tyBool l₇ 0 (vbool y))) e refl $ leaves-loop ! (load ! (from ! (stop !)) (look ! 8 refl)) $ exec ! (𝓣 .C) (𝓣 .Λ) En this.Code.Mir.t-4 (atRet En Post) $
         assigns ! (of-opd ! (load ! (from ! (stop !)) (look ! 12 refl))) (from ! (stop !)) (init ! 22 refl (tt, tt)) $
         shuts-rows κ q b o γ ys ! tt q′ $
         returns ! (look ! 22 refl) $ forget ! 8 refl $ forget ! 12 refl $ forget ! 14 refl $ forget ! 16 refl $ forget ! 18 refl $ forget ! 20 refl $ forget ! 22 refl $
         move ! (22 ∷ 23 ∷ []) $ free1 ! $ move ! (20 ∷ 21 ∷ []) $ free1 ! $ move ! (18 ∷ 19 ∷ []) $ free1 ! $ move ! (16 ∷ 17 ∷ []) $ free1 ! $ move ! (14 ∷ 15 ∷ []) $ free1 ! $ move ! (12 ∷ 13 ∷ []) $ free1 ! $ move ! (10 ∷ 11 ∷ []) $ free1 ! $ move ! (8 ∷ 9 ∷ []) $ free1 ! $ move ! (6 ∷ 7 ∷ []) $ free1 ! $ move ! (4 ∷ 5 ∷ []) $ free1 ! $ move ! (2 ∷ 3 ∷ []) $ free1 ! $ free0 ! $
-        by ! (exits (s .0 .0) (searched-end (quarter .0) ys (s .0 .0) (s .0 .1) place (s .2) (ltb-false (s .0 .1) place e) (s .1)))
+        drop ! $ ends-reading stands-below 𝓤 H A κ q b o γ ys (place, (quarter, tt)) W ! (vbool (s .0 .0)) (s .0 .0) (searched-end (quarter .0) ys (s .0 .0) (s .0 .1) place (s .2) (ltb-false (s .0 .1) place e) (s .1)) refl
 
-    begins : (s : State) → Sq W (At s) (runs C Λ En mir.t-3 (atRet En Post))
-    begins s = first ! $ blocks ! $ loops ! 𝓣 Nearer Nearer-wf At (λ u. turn-by u (ltb (u .0 .1) place) refl) s
+    begins : (s : State) → Sq W (At s) (runs (𝓣 .C) (𝓣 .Λ) En this.Code.Mir.t-3 (atRet En Post))
+    begins s = first ! $ blocks ! $ loops ! 𝓣 Nearer (falls-wf _) At (λ u. turn-by u (ltb (u .0 .1) place) refl) s
 
-  walk : (𝓣 : Tables 𝓤 H) → FmC 𝓤 H (W .laws) (𝓣 .C) → Triple 𝓤 (𝓣 .C #stands) (Ensured stands 𝓤 H A)
-      → ent 𝓤 (onEntry 𝓤 H A this.signature (κ, tt) (q, tt) (x, (place, (quarter, tt))) at) (WpFn 𝓤 H (𝓣 .C) (𝓣 .Λ) code.function args Post)
-  walk 𝓣 fm known-stands =
-      qed W ((‵ (flft κ q) ⊛ ‵ ftrue) ∷ ‵ (owns (ShrSlice (named 0) κ R.the-row ∷ usize ∷ Q.the-row ∷ []) (x, (place, (quarter, tt))) at) ∷ []) ∵ enter ! (𝓣 .C) (𝓣 .Λ) code.function args _ $
+  walk : Sq W (‵ (Rows κ b o γ ys) ∷ ‵ (flft κ q) ∷ []) (prop (WpFn 𝓤 H (𝓣 .C) (𝓣 .Λ) this.Code.function (rowsVal b o ys ∷ vint w64 place ∷ Q′.lowered quarter ∷ []) Post))
+  walk =
+      enter ! (𝓣 .C) (𝓣 .Λ) this.Code.function _ _ $
       alloc1 ! (λ l₀. alloc1 ! (λ l₁. alloc1 ! (λ l₂. alloc1 ! (λ l₃. alloc1 ! (λ l₄. alloc1 ! (λ l₅. alloc1 ! (λ l₆. alloc1 ! (λ l₇. alloc1 ! (λ l₈. alloc1 ! (λ l₉. alloc1 ! (λ l₁₀. alloc0 ! $ params1 ! $
       pass1 ! (init ! 18 refl (tt, (tt, (record { fits = room .0 }, tt)))) $ pass1 ! (init ! 16 refl (tt, record { fits = place-fits })) $ pass1 ! (init ! 14 refl (LL.lawful Q.the-type Q′.the-laws 𝓤 H A W .typed quarter _ is-quarter .0)) $ pass0 ! $
       assigns ! (of-opd ! (lit ! tt)) (from ! (stop !)) (init ! 12 refl (tt, record { fits = lit< tt })) $
       assigns ! (of-opd ! (false-lit !)) (from ! (stop !)) (init ! 10 refl (tt, tt)) $
-      move ! (23 ∷ []) $ fsplit ! $ move ! (24 ∷ []) $ split ! $
-      -- [the token; true; rows; what the others own; _10; …]
-      keep ! (2 ∷ 0 ∷ 4 ∷ 5 ∷ 6 ∷ 7 ∷ 8 ∷ 9 ∷ 10 ∷ 11 ∷ 12 ∷ 13 ∷ 14 ∷ 15 ∷ 16 ∷ 17 ∷ 18 ∷ 19 ∷ 20 ∷ 21 ∷ 22 ∷ 23 ∷ 24 ∷ 25 ∷ []) $
-      opens-rows κ q b o γ ys ! tt (λ q′. begins 𝓣 fm known-stands q′ l₀ l₁ l₂ l₃ l₄ l₅ l₆ l₇ l₈ l₉ l₁₀ ((false, 0), searched-first (quarter .0) ys, omega arith)))))))))))))
+      move ! (22 ∷ 23 ∷ []) $ opens-rows κ q b o γ ys ! tt (λ q′. begins q′ l₀ l₁ l₂ l₃ l₄ l₅ l₆ l₇ l₈ l₉ l₁₀ ((false, 0), searched-first (quarter .0) ys, omega arith)))))))))))))
 
-module _ {M : Type 1} (𝓤 : URA M) (H : Heap 𝓤) (A : Atoms 𝓤) (W : Given 𝓤 H A) (at-mem : Memory → SProp 𝓤) (run : Routine → Fun 𝓤) where
-  f-walks : (𝓣 : Tables 𝓤 H) → FmC 𝓤 H (W .laws) (𝓣 .C) → Triple 𝓤 (𝓣 .C #stands) (Ensured stands 𝓤 H A) → Walks 𝓤 H A this.ended stayed (WpFn 𝓤 H (𝓣 .C) (𝓣 .Λ) code.function) (this.clauses 𝓤 H A at-mem run)
-  f-walks 𝓣 fm known-stands = walked 𝓤 H A this.ended stayed (this.clauses 𝓤 H A at-mem run) (WpFn 𝓤 H (𝓣 .C) (𝓣 .Λ) code.function) (λ κs. (slice-vals, (uint-vals w64, (LL.vals Q.the-type Q′.the-laws, tt)))) (λ κs. (shr-slice-tells (named 0) (κs .0) R.the-row, (uint-tells w64, (LL.tells Q.the-type Q′.the-laws, tt))))
-      (λ κs qs bounds a g are. needs 𝓤 (a .1 .0 ≤ length (a .0 .now)) _ (λ within.
-      walk 𝓤 H A W at-mem run (κs .0) (qs .0) (a .0 .ptr .0) (a .0 .ptr .1) (a .0 .name) (a .0 .now) (a .1 .0) (a .1 .1 .0) (are .0 .0 .1) (are .1 .0 .1) within (are .1 .1 .0) 𝓣 fm known-stands))
-
-  goes : AllGo 𝓤 H A W 1 (this.signature .params) (this.ended .kept) stayed
-  goes = (goes-none-slice 𝓤 H A W 1 (0 ∷ []) tt (plain (λ _. R.the-row)) yes, (goes-none 𝓤 H A W 1 (λ _. usize) yes (λ κs x f. refl), (goes-none 𝓤 H A W 1 (λ _. Q.the-row) yes (λ κs x f. refl), tt)))
-
-pub stands-below-spec : {M : Type 1} → stated.statement M
-unfolding code.routine tablesOf
+pub stands-below-spec : {M : Type 1} → this.Statement.statement M
+unfolding this.Code.routine tablesOf
 stands-below-spec 𝓤 H 𝓜 𝓖 𝓡 =
-    by-walk this.ended stayed 𝓤 H 𝓜 𝓖 𝓡 code.env #f code.function (code.unfolded 𝓤 H 𝓜 𝓡) (this.clauses 𝓤 H (𝓖 .A) (𝓜 .mem) (𝓡 .run)) (goes 𝓤 H (𝓖 .A) (givenOf 𝓤 H 𝓜 𝓖) (𝓜 .mem) (𝓡 .run))
-    (λ fm. f-walks 𝓤 H (𝓖 .A) (givenOf 𝓤 H 𝓜 𝓖) (𝓜 .mem) (𝓡 .run) (tablesOf 𝓤 H 𝓜 (tables 𝓤 H 𝓜 𝓡 code.env)) fm
-    (cited 𝓤 H _ 𝓜 𝓡 code.env #stands stands-def.routine code.calls-streams·survey·stands (stands-thm.met 𝓤 H 𝓜 𝓖 𝓡)))
+    meets-reading stands-below 𝓤 H 𝓜 𝓖 𝓡 this.Code.env this.Key.name this.Code.function (this.Code.unfolded 𝓤 H 𝓜 𝓡) (λ fm κ q b o γ ys a room are within. walk 𝓤 H (𝓖 .A) (givenOf 𝓤 H 𝓜 𝓖) (tablesOf 𝓤 H 𝓜 (tables 𝓤 H 𝓜 𝓡 this.Code.env)) fm
+    (cited 𝓤 H _ 𝓜 𝓡 this.Code.env stands·fn.Symbol.name stands·fn.Symbol.routine this.Code.calls-stream-survey·survey·stands (stands·fn.Met.met 𝓤 H 𝓜 𝓖 𝓡)) κ q b o γ ys (a .0) (a .1 .0) room (are .0 .1) within (are .1 .0))

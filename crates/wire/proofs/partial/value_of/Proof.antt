@@ -1,7 +1,7 @@
+-- `valueOf-shift` of Reading: the remainder takes the top two bits off.
 use Rattle.wire.proofs.Reading.{valueOf-shift, shifted-pos}
-use borrow.Author.Needs.{needs}
-use Rattle.wire.proofs.partial.value_of.Statement.{statement}
-use Rattle.wire.proofs.partial.value_of.Tie as tie
+use Rattle.walks.proofs.Words.{needs}
+use Rattle.wire.proofs.partial.value_of as this
 
-pub value-of-spec : {M : Type 1} → statement M
-value-of-spec = tie.close (tie.spec (λ c. search needs) (λ c. search needs) (λ c. search needs) (λ c. shifted-pos (c .args .size) (c .pre .1)) (λ c. valueOf-shift (c .args .size) (c .args .n) (c .pre .1)))
+pub value-of-spec : {M : Type 1} → this.Statement.statement M
+value-of-spec = this.Tie.close (this.Tie.spec (λ c. search needs) (λ c. search needs) (λ c. search needs) (λ c. shifted-pos (c .args .size) (c .pre .1)) (λ c. valueOf-shift (c .args .size) (c .args .n) (c .pre .1)))

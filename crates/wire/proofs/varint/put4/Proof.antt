@@ -1,12 +1,7 @@
+-- `put-halves` of Numbers: two bytes and then two.
 use Rattle.wire.proofs.Numbers.{put-halves}
-use borrow.Author.Needs.{needs}
-use Rattle.wire.proofs.varint.put4.Statement.{statement}
-use Rattle.wire.proofs.varint.put4.Tie as tie
+use Rattle.walks.proofs.Words.{needs}
+use Rattle.wire.proofs.varint.put4 as this
 
-returns : tie.Need-returns
-returns c =
-    let entry = c .before .before .before .before .before .before .before .before .before in
-    cc (put-halves (entry .args .out .now) (entry .args .at) 2 2 (entry .args .n))
-
-pub put4-spec : {M : Type 1} → statement M
-put4-spec = tie.close (tie.spec (λ c κs. search needs) (λ c. search needs) (λ c κs. search needs) (λ c. search needs) returns)
+pub put4-spec : {M : Type 1} → this.Statement.statement M
+put4-spec = this.Tie.close (this.Tie.spec (λ c κs. search needs) (λ c. search needs) (λ c κs. search needs) (λ c. search needs) (λ c. cc (put-halves (c .before .before .before .before .before .before .before .before .before .args .out .now) _ 2 2 _)))

@@ -1,7 +1,7 @@
-use native.Mathlib.Omega.{arith}
+-- By the range of the first byte; `sizeOf-at` of Reading does each.
+use Rattle.walks.proofs.Words.{arith}
 use Rattle.wire.proofs.Reading.{sizeOf-at}
-use Rattle.wire.proofs.varint.size_of.Statement.{statement}
-use Rattle.wire.proofs.varint.size_of.Tie as tie
+use Rattle.wire.proofs.varint.size_of as this
 
-pub size-of-spec : {M : Type 1} → statement M
-size-of-spec = tie.close (tie.spec (λ c. sizeOf-at _ 0 (omega arith)) (λ c. sizeOf-at _ 1 (omega arith)) (λ c. sizeOf-at _ 2 (omega arith)) (λ c. sizeOf-at _ 3 (omega arith)))
+pub size-of-spec : {M : Type 1} → this.Statement.statement M
+size-of-spec = this.Tie.close (this.Tie.spec (λ c. sizeOf-at _ 0 (omega arith)) (λ c. sizeOf-at _ 1 (omega arith)) (λ c. sizeOf-at _ 2 (omega arith)) (λ c. sizeOf-at _ 3 (omega arith)))

@@ -1,0 +1,4 @@
+mod Terms
+pub mod Cases
+pub mod Stepping
+pub mod Handing

@@ -1,0 +1,9 @@
+pub mod Starred
+pub mod Pin
+pub mod Wire
+pub mod Streams
+pub mod Lists
+pub mod Addresses
+pub mod Frames
+pub mod Writers
+pub mod Pins

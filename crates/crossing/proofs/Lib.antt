@@ -1,2 +1,0 @@
-pub mod StoredForm
-pub mod Standing

@@ -1,0 +1,3 @@
+mod Terms
+pub mod FastPaths
+pub mod Claims

@@ -1,0 +1,2 @@
+pub mod FastPaths
+pub mod Claims

@@ -1,0 +1,4 @@
+pub mod Ties
+pub mod Translation
+pub mod Claims
+pub mod Cases

@@ -1,0 +1,4 @@
+mod Terms
+pub mod Deciding
+pub mod Answers
+pub mod Rules

@@ -1,0 +1,3 @@
+pub mod Judging
+pub mod Claims
+pub mod Code

@@ -1,4 +1,0 @@
-pub mod Apart
-pub mod Decimals
-pub mod Placing
-pub mod Samples

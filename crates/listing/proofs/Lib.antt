@@ -1,3 +1,0 @@
-pub mod Rounds
-pub mod Agreement
-pub mod Cases

@@ -1,0 +1,4 @@
+mod Terms
+pub mod Rounds
+pub mod Agreement
+pub mod Cases

@@ -1,0 +1,3 @@
+mod Terms
+pub mod StoredForm
+pub mod Position

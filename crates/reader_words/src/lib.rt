@@ -1,0 +1,3 @@
+// A reader kept in eight words.
+pub mod numbers;
+pub mod words;

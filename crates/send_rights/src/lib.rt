@@ -1,0 +1,2 @@
+// Who may send to a stream.
+pub mod rights;

@@ -1,0 +1,5 @@
+mod Terms
+pub mod Putting
+pub mod Deciding
+pub mod Leaving
+pub mod Headers

@@ -1,0 +1,2 @@
+// DATAGRAM capsules and QUIC DATAGRAM frames written.
+pub mod write;

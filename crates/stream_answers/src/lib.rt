@@ -1,0 +1,3 @@
+// What calls on a stream table answer, as structs of numbers.
+pub mod frames;
+pub mod table;

@@ -1,0 +1,4 @@
+mod Terms
+pub mod Buckets
+pub mod Blanks
+pub mod Surveying

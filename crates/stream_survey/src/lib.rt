@@ -1,0 +1,2 @@
+// What one pass over a table of stream records finds.
+pub mod survey;

@@ -1,6 +1,0 @@
-pub mod Records
-pub mod Tables
-pub mod Words
-pub mod Claims
-pub mod Cases
-pub mod Code

@@ -1,0 +1,5 @@
+mod Terms
+pub mod Apart
+pub mod Decimals
+pub mod Placing
+pub mod Samples
