@@ -1,27 +1,70 @@
 -- A feeding's bytes, moved as its plan says. Assumes nothing.
-use Rattle.walks.proofs.Words.{_≡_, refl, ap, _∙_, ℕ, _+_, _-_, _≤_, arith, Bool, true, false, List, _++_, length, take, length-append, length-take-le, sets, le-leb}
-use Rattle.capsule.proofs.Terms.{Partial, heldBytes, length-bytesOf, onlyIf, Plan, Reader, Ended, Took, Lent, lent, finishesIn, planOf, heldOf, wrote, stored, judgedIn, feeding, fedBy, takeOf, Wrote, bothHave, copy, Moved, moved, storedBy, forwardBy}
+use Rattle.walks.proofs.Words.{_≡_, refl, sym, ap, _∙_, ℕ, suc, _+_, _-_, _*_, _/_, _%_, _^_, _≤_, _<_, add-one, arith, Bool, true, false, List, length, take, set, length-append, sets, length-sets, length-take-le}
+use Rattle.capsule.proofs.Terms.{Partial, bytesOf, heldBytes, pow-256, length-bytesOf, sets-append, onlyIf, Plan, Reader, Ended, Took, Lent, lent, finishesIn, planOf, heldOf, wrote, stored, judgedIn, feeding, fedBy, takeOf, Wrote, copying, copy, copied}
 
--- what fits is moved
-pub stored-is : (p g : List ℕ) (store : Bool) (at consumed place : ℕ) → at ≤ consumed → consumed ≤ length p → (store ≡ true → place + (consumed - at) ≤ length g)
-    → storedBy store at consumed place p g ≡ stored store at consumed place p g
-unfolding storedBy stored copy bothHave
-stored-is p g true at consumed place h l k =
-    let k′ : place + (consumed - at) ≤ length g = k refl in
-    let l′ : at + (consumed - at) ≤ length p = omega arith in
-    rw (le-leb at consumed h, le-leb (at + (consumed - at)) (length p) l′, le-leb (place + (consumed - at)) (length g) k′)
-stored-is p g false at consumed place h l k = refl
+-- ---- a number's bytes, from the first on
 
-pub forwarded-is : (p o : List ℕ) (forward : Bool) (held : Partial) (consumed : ℕ) → consumed ≤ length p → held .have ≤ 8 → (forward ≡ true → held .have + consumed ≤ length o)
-    → (written : ℕ) (after : List ℕ) → moved written after ≡ forwardBy forward held consumed p o → Wrote (wrote forward held consumed p) o written after
-unfolding forwardBy bothHave wrote onlyIf heldBytes
-forwarded-is p o true held consumed l h k written after e =
-    let e′ : moved written after ≡ moved (held .have + consumed) (sets o 0 (heldBytes held ++ take consumed p)) = rw (le-leb (held .have) 8 h, le-leb (0 + consumed) (length p) (omega arith), le-leb (held .have + consumed) (length o) (k refl)) at e in
-    record {
-      counted = ap (λ (m : Moved). m .count) e′ ∙ omega (arith, length-append (heldBytes held) (take consumed p), length-take-le consumed p l, length-bytesOf (held .have) (held .raw));
-      placed = ap (λ (m : Moved). m .buffer) e′;
-    }
-forwarded-is p o false held consumed l h k written after e = record { counted = ap (λ (m : Moved). m .count) e; placed = ap (λ (m : Moved). m .buffer) e }
+-- the first of k + 1 bytes, then the others
+first-out : (o : List ℕ) (i k raw : ℕ) → sets (set o i (raw / 256 ^ k % 256)) (suc i) (bytesOf k raw) ≡ sets o i (bytesOf (suc k) raw)
+unfolding bytesOf
+first-out o i k raw = refl
+
+-- i of n bytes are in place, and the others would make the whole
+abbrev pub Putting : ℕ → ℕ → List ℕ → List ℕ → ℕ → Type 0
+Putting n raw o₀ o i = sets o i (bytesOf (n - i) raw) ≡ sets o₀ 0 (bytesOf n raw)
+
+module _ (n raw : ℕ) (o₀ : List ℕ) where
+  pub put-none : Putting n raw o₀ o₀ 0
+  put-none = let e : n - 0 ≡ n = omega arith in rw e
+
+  module _ (o : List ℕ) (i : ℕ) (e : Putting n raw o₀ o i) where
+    pub put-next : i < n → Putting n raw o₀ (set o i (raw / 2 ^ (8 * (n - i - 1)) % 256)) (i + 1)
+    put-next h = go (n - i - 1) refl
+      where
+        go : (k : ℕ) → n - i - 1 ≡ k → Putting n raw o₀ (set o i (raw / 2 ^ (8 * (n - i - 1)) % 256)) (i + 1)
+        go k q =
+            let a : n - i ≡ suc k = omega arith in
+            let b : n - (i + 1) ≡ k = omega arith in
+            rw (q, b, add-one i, pow-256 k) (first-out o i k raw ∙ ap (λ (x : ℕ). sets o i (bytesOf x raw)) (sym a) ∙ e)
+
+    pub put-all : n ≤ i → o ≡ sets o₀ 0 (bytesOf n raw)
+    unfolding bytesOf
+    put-all h = let z : n - i ≡ 0 = omega arith in sym (ap (λ (x : ℕ). sets o i (bytesOf x raw)) z) ∙ e
+
+-- ---- a run of bytes
+
+module _ (p g : List ℕ) (store : Bool) (at consumed place : ℕ) where
+  pub stored-some : store ≡ true → at ≤ consumed → consumed ≤ length p → place + (consumed - at) ≤ length g → (done : Bool) (after : List ℕ)
+      → copying done after ≡ copy p at g place (consumed - at) → after ≡ stored store at consumed place p g
+  unfolding stored
+  stored-some e h l k done after c = rw e (copied p at g place (consumed - at) done after c (omega arith) k)
+
+  pub stored-none : store ≡ false → g ≡ stored store at consumed place p g
+  unfolding stored
+  stored-none e = rw e
+
+-- the held bytes, and after them a run of the piece
+module _ (p o : List ℕ) (forward : Bool) (held : Partial) (consumed : ℕ) where
+  pub wrote-some : forward ≡ true → consumed ≤ length p → held .have + consumed ≤ length o → (put : List ℕ) → put ≡ sets o 0 (bytesOf (held .have) (held .raw))
+      → (done : Bool) (after : List ℕ) → copying done after ≡ copy p 0 put (held .have) consumed
+      → Wrote (wrote forward held consumed p) o (held .have + consumed) after
+  unfolding wrote onlyIf heldBytes
+  wrote-some e l h put isPut done after c =
+      let w : List ℕ = bytesOf (held .have) (held .raw) in
+      let len : length w ≡ held .have = length-bytesOf (held .have) (held .raw) in
+      let size : length put ≡ length o = ap length isPut ∙ length-sets o 0 w in
+      let z : 0 + length w ≡ held .have = omega arith in
+      rw e (record {
+        counted = omega (arith, length-append w (take consumed p), length-take-le consumed p l);
+        placed = copied p 0 put (held .have) consumed done after c (omega arith) (omega arith)
+            ∙ ap (λ (x : List ℕ). sets x (held .have) (take consumed p)) isPut
+            ∙ ap (λ (x : ℕ). sets (sets o 0 w) x (take consumed p)) (sym z)
+            ∙ sets-append o 0 w (take consumed p);
+      })
+
+  pub wrote-none : forward ≡ false → Wrote (wrote forward held consumed p) o 0 o
+  unfolding wrote onlyIf
+  wrote-none e = rw e (record { counted = refl; placed = refl })
 
 -- ---- a feeding without its refusals
 

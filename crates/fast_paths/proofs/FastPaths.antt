@@ -1,6 +1,6 @@
 -- The fast paths of a feeding. Assumes nothing.
 use Rattle.walks.proofs.Words.{_≡_, refl, sym, ap, _∙_, ℕ, _+_, _-_, _≤_, _<_, arith, Bool, true, false, cond, List, length, take, getD, sets, leb, le-leb, lt-leb}
-use Rattle.fast_paths.proofs.Terms.{Refusal, unmakeableState, isPartial, starts, split, Opening, Report, Delivered, Dropped, Role, Endpoint, Intermediary, Kind, Datagram, Address, Unknown, Plan, Header, Long, Short, Value, InType, InValue, Reader, Nothing, Capsule, Verdict, Accepted, Refused, kindOf, extentBy, extentOf, reportBy, reportOf, judged, finishes, forwards, gathers, keepsBy, keeps, lengthOf, Lent, lent, finishesIn, lentVerdict, noBytes, isMakeablePhase, planValue, planType, planOf, heldOf, fresh, isOpening, isMakeable, verdictOf, wrote, stored, judgedIn, Feeding, feeding, feedOf, Wrote, shortHeader, isPlain, isShort, WholeFed, wholeFed, wholeIn, wholeBy, wholeOf, inValue, InsideFed, insideFed, insideIn, insideBy, insideOf, zero-one, value-ends, value-goes, valued, short-reached, takes, unmakeable, by-lengths, feed-refused, feed-taken, moved, storedBy, forwardBy, stored-is, forwarded-is, gathers-limit, forwards-role, makeable-value, extent-most, accepts}
+use Rattle.fast_paths.proofs.Terms.{Refusal, unmakeableState, isPartial, starts, split, Opening, Report, Delivered, Dropped, Role, Endpoint, Intermediary, Kind, Datagram, Address, Unknown, Plan, Header, Long, Short, Value, InType, InValue, Reader, Nothing, Capsule, Verdict, Accepted, Refused, kindOf, extentBy, extentOf, reportBy, reportOf, judged, finishes, forwards, gathers, keepsBy, keeps, lengthOf, Lent, lent, finishesIn, lentVerdict, noBytes, isMakeablePhase, planValue, planType, planOf, heldOf, fresh, isOpening, isMakeable, verdictOf, wrote, stored, judgedIn, Feeding, feeding, feedOf, Wrote, shortHeader, isPlain, isShort, WholeFed, wholeFed, wholeIn, wholeBy, wholeOf, inValue, InsideFed, insideFed, insideIn, insideBy, insideOf, zero-one, value-ends, value-goes, valued, short-reached, takes, unmakeable, by-lengths, feed-refused, feed-taken, gathersBy, forwardsBy, bytesOf, no-true, copying, copy, wrote-some, gathers-limit, forwards-role, makeable-value, extent-most, accepts}
 use Rattle.capsule.specs.declared.reader.FeedAnswer.the-variants as fedAs
 use Rattle.fast_paths.specs.declared.Whole.the-variants as wholeAs
 use Rattle.fast_paths.specs.declared.Inside.the-variants as insideAs
@@ -87,17 +87,37 @@ nothing-last : false ≡ finishesIn Nothing
 unfolding finishesIn
 nothing-last = refl
 
--- ---- what was moved is what a feeding moves, since the accepted lengths have room for it
+-- ---- the bytes of a piece, moved
 
-stores : (op : Opening) (t n : ℕ) (p g : List ℕ) (store : Bool) → store ≡ gathers op t n → (at consumed place : ℕ) → at ≤ consumed → consumed ≤ length p → op .limit ≤ length g
-    → place + (consumed - at) ≤ n → (after : List ℕ) → after ≡ storedBy store at consumed place p g → after ≡ stored store at consumed place p g
-stores op t n p g store isStore at consumed place h l k f after e =
-    e ∙ stored-is p g store at consumed place h l (λ s. omega (arith, gathers-limit op t n (sym isStore ∙ s) .1))
+pub gathered-only : (op : Opening) (t n : ℕ) → gathers op t n ≡ true → forwards op t ≡ false
+unfolding gathers forwards
+gathered-only op t n e = go (kindOf op t) (op .role) e
+  where
+    go : (k : Kind) (r : Role) → gathersBy k (op .limit) n ≡ true → forwardsBy r k ≡ false
+    go Datagram Endpoint e = unfold forwardsBy in refl
+    go Datagram Intermediary e = unfold forwardsBy in refl
+    go Address r e = unfold gathersBy in no-true e
+    go Unknown r e = unfold gathersBy in no-true e
 
-sends : (op : Opening) (t : ℕ) (p o : List ℕ) (forward : Bool) → forward ≡ forwards op t → (op .role ≡ Intermediary → length p + 8 ≤ length o) → (consumed : ℕ) → consumed ≤ length p
-    → (written : ℕ) (after : List ℕ) → moved written after ≡ forwardBy forward noBytes consumed p o → Wrote (wrote forward noBytes consumed p) o written after
-sends op t p o forward isForward room consumed l written after e =
-    forwarded-is p o forward noBytes consumed l (omega arith) (λ w. omega (arith, room (forwards-role op t (sym isForward ∙ w)))) written after e
+pub forwarded : (op : Opening) (t : ℕ) (p o : List ℕ) (end : ℕ) → forwards op t ≡ true → end ≤ length p → end ≤ length o
+    → (done : Bool) (after : List ℕ) → copying done after ≡ copy p 0 o 0 end → Wrote (wrote (forwards op t) noBytes end p) o end after
+unfolding bytesOf
+forwarded op t p o end e l k done after c =
+    let z : 0 + end ≡ end = omega arith in
+    rw z at (wrote-some p o (forwards op t) noBytes end e l (omega arith) o refl done after c)
+
+-- the accepted lengths have room for what is moved
+module _ (r : Reader) (piece gathering addresses output : ℕ) (v : verdictOf r piece gathering addresses output ≡ Accepted) where
+  pub fits : (t n at end place : ℕ) → at ≤ end → end ≤ piece → place + (end - at) ≤ n
+      → (at ≤ end) × (end ≤ piece) × (gathers (r .opening) t n ≡ true → place + (end - at) ≤ gathering) × (forwards (r .opening) t ≡ true → end ≤ output)
+  fits t n at end place h l k =
+      let room = accepts r piece gathering addresses output v in
+      (h, l, λ e. omega (arith, gathers-limit (r .opening) t n e .1, room .gathers), λ e. omega (arith, room .forwards (forwards-role (r .opening) t e)))
+
+  pub left-most : (t n left : ℕ) → r .phase ≡ InValue t n left → left ≤ n
+  left-most t n left e =
+      let made = rw e at (accepts r piece gathering addresses output v .phase) in
+      omega (arith, makeable-value (r .opening) t n left made, extent-most (r .opening) t n)
 
 -- ---- between two capsules
 
@@ -151,34 +171,19 @@ module _ (op : Opening) (p : List ℕ) (b : Lent) where
         let plan : Plan = record { next = InValue t n (n - (length p - at)); consumed = length p; ended = Nothing; forward = forwards op t; store = gathers op t n; keep = keeps op t n; at = at; place = extentOf op t n - n } in
         takes (fresh op) p b noBytes plan written g (b .addresses) o Nothing false (no-bytes-held op t n n .0) (sym (value-goes op p at t n n h) ∙ planned) (rw z isG) (none-kept op t n q p b plan refl) isO (nothing-so (b .addresses)) nothing-last ∙ feed-taken (fresh op) p b v
 
-    module _ (store forward : Bool) (isStore : store ≡ gathers op t n) (isForward : forward ≡ forwards op t) (written : ℕ) (g o : List ℕ) where
+    module _ (written : ℕ) (g o : List ℕ) where
       pub whole-taken : n ≤ length p - at → (report : Report) → report ≡ reportOf op t n
-          → g ≡ stored store at (at + n) 0 p (b .gathering) → Wrote (wrote forward noBytes (at + n) p) (b .output) written o
+          → g ≡ stored (gathers op t n) at (at + n) 0 p (b .gathering) → Wrote (wrote (forwards op t) noBytes (at + n) p) (b .output) written o
           → wholeFed (wholeAs.Took (at + n) written report) (lent g (b .addresses) o) ≡ wholeOf op p b
       unfolding wholeIn
       whole-taken h report isReport isG isO =
-          rw isReport (whole-is at t n e q (feeding (fresh op) (fedAs.Took (at + n) written (Capsule (reportOf op t n))) (lent g (b .addresses) o)) (whole-ends h written g o (rw isStore at isG) (rw isForward at isO)))
+          rw isReport (whole-is at t n e q (feeding (fresh op) (fedAs.Took (at + n) written (Capsule (reportOf op t n))) (lent g (b .addresses) o)) (whole-ends h written g o isG isO))
 
-      pub whole-cut : length p - at < n → g ≡ stored store at (length p) 0 p (b .gathering) → Wrote (wrote forward noBytes (length p) p) (b .output) written o
+      pub whole-cut : length p - at < n → g ≡ stored (gathers op t n) at (length p) 0 p (b .gathering) → Wrote (wrote (forwards op t) noBytes (length p) p) (b .output) written o
           → wholeFed (wholeAs.Cut written t n (n - (length p - at))) (lent g (b .addresses) o) ≡ wholeOf op p b
       unfolding wholeIn
       whole-cut h isG isO =
-          whole-is at t n e q (feeding (inValue op t n (n - (length p - at))) (fedAs.Took (length p) written Nothing) (lent g (b .addresses) o)) (whole-goes h written g o (rw isStore at isG) (rw isForward at isO))
-
-      pub whole-taken-moved : n ≤ length p - at → at ≤ length p → (report : Report) → report ≡ reportOf op t n
-          → g ≡ storedBy store at (at + n) 0 p (b .gathering) → moved written o ≡ forwardBy forward noBytes (at + n) p (b .output)
-          → wholeFed (wholeAs.Took (at + n) written report) (lent g (b .addresses) o) ≡ wholeOf op p b
-      whole-taken-moved h a report isReport isG isO =
-          let k = accepts (fresh op) (length p) (length (b .gathering)) (length (b .addresses)) (length (b .output)) v in
-          whole-taken h report isReport (stores op t n p (b .gathering) store isStore at (at + n) 0 (omega arith) (omega arith) (k .gathers) (omega arith) g isG)
-          (sends op t p (b .output) forward isForward (k .forwards) (at + n) (omega arith) written o isO)
-
-      pub whole-cut-moved : length p - at < n → at ≤ length p → g ≡ storedBy store at (length p) 0 p (b .gathering) → moved written o ≡ forwardBy forward noBytes (length p) p (b .output)
-          → wholeFed (wholeAs.Cut written t n (n - (length p - at))) (lent g (b .addresses) o) ≡ wholeOf op p b
-      whole-cut-moved h a isG isO =
-          let k = accepts (fresh op) (length p) (length (b .gathering)) (length (b .addresses)) (length (b .output)) v in
-          whole-cut h (stores op t n p (b .gathering) store isStore at (length p) 0 a (omega arith) (k .gathers) (omega arith) g isG)
-          (sends op t p (b .output) forward isForward (k .forwards) (length p) (omega arith) written o isO)
+          whole-is at t n e q (feeding (inValue op t n (n - (length p - at))) (fedAs.Took (length p) written Nothing) (lent g (b .addresses) o)) (whole-goes h written g o isG isO)
 
 -- the other way about: what is answered is the feeding
 abbrev wholeAgain : Opening → ℕ → WholeFed → Feeding
@@ -207,14 +212,14 @@ module _ (op : Opening) (p : List ℕ) (b : Lent) (c : getD p 2 0 < 256) where
               let w = wrote (forwards op t) noBytes (at + n) p in
               let g = stored (gathers op t n) at (at + n) 0 p (b .gathering) in
               let o = sets (b .output) 0 w in
-              let taken = whole-taken op p b at t n e q c f (gathers op t n) (forwards op t) refl refl (length w) g o h (reportOf op t n) refl refl (record { counted = refl; placed = refl }) in
+              let taken = whole-taken op p b at t n e q c f (length w) g o h (reportOf op t n) refl refl (record { counted = refl; placed = refl }) in
               done (ap (wholeAgain op (length p)) (sym taken) ∙ whole-ends op p b at t n e q c f h (length w) g o refl (record { counted = refl; placed = refl }))
               (λ z. zero-one (cc (ap (λ (x : WholeFed). x .answer) taken ∙ z))))
               (λ h.
               let w = wrote (forwards op t) noBytes (length p) p in
               let g = stored (gathers op t n) at (length p) 0 p (b .gathering) in
               let o = sets (b .output) 0 w in
-              let taken = whole-cut op p b at t n e q c f (gathers op t n) (forwards op t) refl refl (length w) g o h refl (record { counted = refl; placed = refl }) in
+              let taken = whole-cut op p b at t n e q c f (length w) g o h refl (record { counted = refl; placed = refl }) in
               done (ap (wholeAgain op (length p)) (sym taken) ∙ whole-goes op p b at t n e q c f h (length w) g o refl (record { counted = refl; placed = refl }))
               (λ z. zero-one (cc (ap (λ (x : WholeFed). x .answer) taken ∙ z))))
 
@@ -270,36 +275,19 @@ module _ (op : Opening) (t n left : ℕ) (p : List ℕ) (b : Lent) where
         let isPlan : plan ≡ planOf op p (InValue t n left) = sym (rw z at (value-goes op p 0 t n left (omega arith))) ∙ at-value op p t n left in
         takes (inValue op t n left) p b noBytes plan written g (b .addresses) o Nothing false (no-bytes-held op t n left .1) isPlan (rw (plain op t n q .extent) isG) (none-kept op t n q p b plan refl) isO (nothing-so (b .addresses)) nothing-last ∙ feed-taken (inValue op t n left) p b v
 
-    module _ (store forward : Bool) (isStore : store ≡ gathers op t n) (isForward : forward ≡ forwards op t) (written : ℕ) (g o : List ℕ) where
+    module _ (written : ℕ) (g o : List ℕ) where
       pub inside-ended : left ≤ length p → (report : Report) → report ≡ reportOf op t n
-          → g ≡ stored store 0 left (n - left) p (b .gathering) → Wrote (wrote forward noBytes left p) (b .output) written o
+          → g ≡ stored (gathers op t n) 0 left (n - left) p (b .gathering) → Wrote (wrote (forwards op t) noBytes left p) (b .output) written o
           → insideFed (insideAs.Ended left written report) (lent g (b .addresses) o) ≡ insideOf op t n left p b
       unfolding insideIn
       inside-ended h report isReport isG isO =
-          rw isReport (inside-is q (feeding (fresh op) (fedAs.Took left written (Capsule (reportOf op t n))) (lent g (b .addresses) o)) (inside-ends h written g o (rw isStore at isG) (rw isForward at isO)))
+          rw isReport (inside-is q (feeding (fresh op) (fedAs.Took left written (Capsule (reportOf op t n))) (lent g (b .addresses) o)) (inside-ends h written g o isG isO))
 
-      pub inside-taken : length p < left → g ≡ stored store 0 (length p) (n - left) p (b .gathering) → Wrote (wrote forward noBytes (length p) p) (b .output) written o
+      pub inside-taken : length p < left → g ≡ stored (gathers op t n) 0 (length p) (n - left) p (b .gathering) → Wrote (wrote (forwards op t) noBytes (length p) p) (b .output) written o
           → insideFed (insideAs.Took written) (lent g (b .addresses) o) ≡ insideOf op t n left p b
       unfolding insideIn
       inside-taken h isG isO =
-          inside-is q (feeding (inValue op t n (left - length p)) (fedAs.Took (length p) written Nothing) (lent g (b .addresses) o)) (inside-goes h written g o (rw isStore at isG) (rw isForward at isO))
-
-      pub inside-ended-moved : left ≤ length p → (report : Report) → report ≡ reportOf op t n
-          → g ≡ storedBy store 0 left (n - left) p (b .gathering) → moved written o ≡ forwardBy forward noBytes left p (b .output)
-          → insideFed (insideAs.Ended left written report) (lent g (b .addresses) o) ≡ insideOf op t n left p b
-      inside-ended-moved h report isReport isG isO =
-          let k = accepts (inValue op t n left) (length p) (length (b .gathering)) (length (b .addresses)) (length (b .output)) v in
-          let m : left ≤ n = omega (arith, makeable-value op t n left (k .phase), extent-most op t n) in
-          inside-ended h report isReport (stores op t n p (b .gathering) store isStore 0 left (n - left) (omega arith) h (k .gathers) (omega arith) g isG)
-          (sends op t p (b .output) forward isForward (k .forwards) left h written o isO)
-
-      pub inside-taken-moved : length p < left → g ≡ storedBy store 0 (length p) (n - left) p (b .gathering) → moved written o ≡ forwardBy forward noBytes (length p) p (b .output)
-          → insideFed (insideAs.Took written) (lent g (b .addresses) o) ≡ insideOf op t n left p b
-      inside-taken-moved h isG isO =
-          let k = accepts (inValue op t n left) (length p) (length (b .gathering)) (length (b .addresses)) (length (b .output)) v in
-          let m : left ≤ n = omega (arith, makeable-value op t n left (k .phase), extent-most op t n) in
-          inside-taken h (stores op t n p (b .gathering) store isStore 0 (length p) (n - left) (omega arith) (omega arith) (k .gathers) (omega arith) g isG)
-          (sends op t p (b .output) forward isForward (k .forwards) (length p) (omega arith) written o isO)
+          inside-is q (feeding (inValue op t n (left - length p)) (fedAs.Took (length p) written Nothing) (lent g (b .addresses) o)) (inside-goes h written g o isG isO)
 
 abbrev insideAgain : Opening → ℕ → ℕ → ℕ → ℕ → InsideFed → Feeding
 insideAgain op t n left size f = elim (f .answer) [
@@ -326,7 +314,7 @@ module _ (op : Opening) (t n left : ℕ) (p : List ℕ) (b : Lent) where
               let w = wrote (forwards op t) noBytes left p in
               let g = stored (gathers op t n) 0 left (n - left) p (b .gathering) in
               let o = sets (b .output) 0 w in
-              let taken = inside-ended op t n left p b q f (gathers op t n) (forwards op t) refl refl (length w) g o h (reportOf op t n) refl refl (record { counted = refl; placed = refl }) in
+              let taken = inside-ended op t n left p b q f (length w) g o h (reportOf op t n) refl refl (record { counted = refl; placed = refl }) in
               done (ap (insideAgain op t n left (length p)) (sym taken) ∙ inside-ends op t n left p b q f h (length w) g o refl (record { counted = refl; placed = refl }))
               (λ z. zero-one (cc (ap (λ (x : InsideFed). x .answer) taken ∙ z)))
               (λ written z. zero-one (cc (ap (λ (x : InsideFed). x .answer) taken ∙ z))))
@@ -334,7 +322,7 @@ module _ (op : Opening) (t n left : ℕ) (p : List ℕ) (b : Lent) where
               let w = wrote (forwards op t) noBytes (length p) p in
               let g = stored (gathers op t n) 0 (length p) (n - left) p (b .gathering) in
               let o = sets (b .output) 0 w in
-              let taken = inside-taken op t n left p b q f (gathers op t n) (forwards op t) refl refl (length w) g o h refl (record { counted = refl; placed = refl }) in
+              let taken = inside-taken op t n left p b q f (length w) g o h refl (record { counted = refl; placed = refl }) in
               done (ap (insideAgain op t n left (length p)) (sym taken) ∙ inside-goes op t n left p b q f h (length w) g o refl (record { counted = refl; placed = refl }))
               (λ z. zero-one (cc (ap (λ (x : InsideFed). x .answer) taken ∙ z)))
               (λ written z. omega arith))

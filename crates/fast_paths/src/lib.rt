@@ -1,18 +1,19 @@
 // Fast paths of the commonest feedings: between two capsules, where a short header is at the front of the piece, and within a value.
 // Any other feeding, refused ones too, is left to the general path.
 ghost use mathlib.Core.Path.{_≡_};
-ghost use Prim.Native.Nat.{_≤_};
+ghost use Prim.Native.Nat.{_+_, _-_, _≤_};
 ghost use lib.ListN.{length};
 ghost use Rattle.planning.specs.declared.Header.the-variants.{Short};
 ghost use Rattle.opening.specs.declared.Verdict.the-variants.{Accepted};
 ghost use mathlib.Core.Bool.{true};
-ghost use Rattle.opening.specs.Kinds.{kindOf};
+ghost use Rattle.opening.specs.Kinds.{kindOf, forwards, gathers};
 ghost use Rattle.capsule.specs.Calls.{lent};
-ghost use Rattle.capsule.specs.Reader.{fresh, verdictOf};
+ghost use Rattle.capsule.specs.Reader.{fresh, verdictOf, stored, wrote};
+ghost use Rattle.capsule.specs.Moves.{Wrote};
+ghost use Rattle.planning.specs.Plans.{noBytes};
 ghost use Rattle.planning.specs.Headers.{shortHeader};
 ghost use Rattle.fast_paths.specs.FastPaths.{isPlain, wholeFed, wholeOf, insideFed, insideOf};
-use moving::forward_bytes;
-use moving::store_bytes;
+use copying::copy_span;
 use opening::Kind;
 use opening::Opening;
 use opening::Report;
@@ -21,7 +22,6 @@ use opening::lent_verdict;
 use planning::Header;
 use planning::is_makeable_value;
 use planning::short_header;
-use wire::partial::Partial;
 
 pub enum Whole {
     // nothing was changed
@@ -116,20 +116,17 @@ pub fn feed_inside(
     match verdict {
         Verdict::Refused(_) => Inside::Not,
         Verdict::Accepted => {
-            let store = op.gathers(ctype, size);
-            let forward = op.forwards(ctype);
+            let place = (size - left) as usize;
             if left <= (n as u64) {
                 let end = left as usize;
-                store_bytes(piece, gathering, store, 0, end, size - left);
-                let last = forward_bytes(piece, output, forward, Partial::EMPTY, end);
+                let last = move_bytes(op, ctype, size, piece, 0, end, gathering, place, output);
                 return Inside::Ended {
                     consumed: end,
                     written: last,
                     report: op.report(ctype, size),
                 };
             }
-            store_bytes(piece, gathering, store, 0, n, size - left);
-            let written = forward_bytes(piece, output, forward, Partial::EMPTY, n);
+            let written = move_bytes(op, ctype, size, piece, 0, n, gathering, place, output);
             Inside::Took { written: written }
         }
     }
@@ -159,13 +156,10 @@ fn take_whole(
     requires { ⌜ (verdictOf (fresh op) (length (now piece)) (length (now gathering)) (length (now addresses)) (length (now output)) ≡ Accepted) × (shortHeader (now piece) ≡ Short at ctype size) × (isPlain (kindOf op ctype) ≡ true) × (at ≤ length (now piece)) ⌝ }
     ensures { λ r. ⌜ wholeFed r (lent (now (gathering .exit)) (now (addresses .entry)) (now (output .exit))) ≡ wholeOf op (now (piece .entry)) (lent (now (gathering .entry)) (now (addresses .entry)) (now (output .entry))) ⌝ }
 {
-    let store = op.gathers(ctype, size);
-    let forward = op.forwards(ctype);
     let room = (piece.len() - at) as u64;
     if size > room {
         let n = piece.len();
-        store_bytes(piece, gathering, store, at, n, 0);
-        let cut = forward_bytes(piece, output, forward, Partial::EMPTY, n);
+        let cut = move_bytes(op, ctype, size, piece, at, n, gathering, 0, output);
         return Whole::Cut {
             written: cut,
             ctype: ctype,
@@ -174,11 +168,38 @@ fn take_whole(
         };
     }
     let end = at + (size as usize);
-    store_bytes(piece, gathering, store, at, end, 0);
-    let written = forward_bytes(piece, output, forward, Partial::EMPTY, end);
+    let written = move_bytes(op, ctype, size, piece, at, end, gathering, 0, output);
     Whole::Took {
         consumed: end,
         written: written,
         report: op.report(ctype, size),
     }
+}
+
+// The bytes of a piece up to `end`: those from `at` on are the value's, from its byte `place` on. A capsule is gathered or
+// forwarded, never both, and each is tried by one branch. Answers how many bytes were forwarded.
+fn move_bytes(
+    op: Opening,
+    ctype: u64,
+    size: u64,
+    piece: &[u8],
+    at: usize,
+    end: usize,
+    gathering: &mut [u8],
+    place: usize,
+    output: &mut [u8],
+) -> usize
+    requires { ⌜ (at ≤ end) × (end ≤ length (now piece)) × (gathers op ctype size ≡ true → place + (end - at) ≤ length (now gathering)) × (forwards op ctype ≡ true → end ≤ length (now output)) ⌝ }
+    ensures { λ _. ⌜ now (gathering .exit) ≡ stored (gathers op ctype size) at end place (now (piece .entry)) (now (gathering .entry)) ⌝ }
+    ensures { λ r. ⌜ Wrote (wrote (forwards op ctype) noBytes end (now (piece .entry))) (now (output .entry)) r (now (output .exit)) ⌝ }
+{
+    if op.gathers(ctype, size) {
+        copy_span(piece, at, gathering, place, end - at);
+        return 0;
+    }
+    if op.forwards(ctype) {
+        copy_span(piece, 0, output, 0, end);
+        return end;
+    }
+    0
 }

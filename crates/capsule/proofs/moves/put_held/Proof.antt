@@ -1,7 +1,7 @@
 -- A loop: the bytes put so far are the front of the number (`put-next`).
 use Rattle.walks.proofs.Words.{arith, needs, _-_, _≤_, _≡_, refl, length, length-set}
-use Rattle.moving.proofs.Moving.{Putting, put-none, put-next, put-all}
-use Rattle.moving.proofs.put_held as this
+use Rattle.capsule.proofs.Moving.{Putting, put-none, put-next, put-all}
+use Rattle.capsule.proofs.moves.put_held as this
 
 abbrev Inv-loop : this.Tie.InvT-loop
 Inv-loop out₀ have raw n i₀ out i = (i ≤ n) × Putting n raw out₀ out i × (length out ≡ length out₀)
