@@ -119,7 +119,12 @@ typedef struct mrz_varint { uint64_t value, size; } mrz_varint;
 /* The answer of every writer. written: how many bytes it wrote, out[place .. place + written). */
 typedef struct mrz_written { uint64_t refusal, written; } mrz_written;
 
-/* Reads the varint at the start of the bytes: its value and its size. Never refused. Changes nothing. */
+/*
+ * Reads the varint at the start of the bytes: its value and its size. Never refused. Changes nothing.
+ *
+ * Forms of one and two bytes are tried first. A host that reads many numbers below 64 can save the call: if bytes_len is
+ * not 0 and bytes[0] is below 0x40, the number is bytes[0] and its size is 1.
+ */
 mrz_varint mrz_read_varint(const uint8_t *bytes, size_t bytes_len);
 
 /*

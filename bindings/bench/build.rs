@@ -5,7 +5,8 @@ use std::env;
 
 fn main() {
     for (variable, library, kind, cfg) in [
-        ("BASE_PEER", "maruzhenu_now", "static", "base"),
+        ("NOW_PEER", "maruzhenu_now", "static", "now"),
+        ("NOW_PEER", "varint_before", "static", "now"),
         ("BASE_PEER", "maruzhenu_base", "static", "base"),
         ("NGHTTP3_PEER", "nghttp3_peer", "static", "nghttp3"),
         ("QUINN_PEER", "quinn_peer", "dylib", "quinn"),

@@ -1,7 +1,9 @@
 //! The calls that are measured, of an archive: this one's, and that of an earlier revision. Both are called through the
 //! same declarations, as include/maruzhenu.h has them now, and by the same machine code.
 
-use maruzhenu::raw::{Fed, FrameTerms, Judged, Limits, Opening, Reader, Stream, Varint, Written};
+use maruzhenu::raw::{
+    Fed, FrameTerms, Judged, Limits, Listing, Opening, Reader, Stream, Varint, Written,
+};
 use maruzhenu::Buffers;
 
 /// Hands the declarations to a macro, behind what is given.
@@ -16,6 +18,7 @@ macro_rules! declared {
                 gathering: *mut u8, gathering_len: usize, addresses: *mut u8, addresses_len: usize,
                 output: *mut u8, output_len: usize
             ) -> Fed;
+            fn mrz_list(bytes: *const u8, bytes_len: usize) -> Listing;
             fn mrz_judge(
                 streams: *const Stream, streams_len: usize, limits: Limits,
                 frame: *const u8, frame_len: usize
@@ -58,9 +61,12 @@ macro_rules! archive {
 
 /// This archive as hosts link it.
 pub const OURS: Archive = declared!(archive "");
-/// This archive and the one before, each function aligned alike.
+/// This archive with its functions aligned as those are that it is measured beside.
+#[cfg(now)]
+pub const NOW: Archive = declared!(archive "now_");
+/// This archive and the one before.
 #[cfg(base)]
-pub const NOW_AND_BEFORE: [Archive; 2] = [declared!(archive "now_"), declared!(archive "base_")];
+pub const NOW_AND_BEFORE: [Archive; 2] = [NOW, declared!(archive "base_")];
 /// None is linked, and nothing is measured beside it.
 #[cfg(not(base))]
 pub const NOW_AND_BEFORE: [Archive; 2] = [OURS; 2];
@@ -102,6 +108,11 @@ impl Archive {
                 buffers.output.len(),
             )
         }
+    }
+
+    #[inline(always)]
+    pub fn list(&self, bytes: &[u8]) -> Listing {
+        unsafe { (self.mrz_list)(bytes.as_ptr(), bytes.len()) }
     }
 
     #[inline(always)]

@@ -5,6 +5,7 @@ mod addresses;
 mod base;
 mod calls;
 mod feeding;
+mod listing;
 mod measure;
 mod plot;
 mod varints;
@@ -59,6 +60,7 @@ fn table_before(revision: &str) {
     for (part, rows) in [
         ("feeding", feeding::rows_before()),
         ("varints", varints::rows_before()),
+        ("listing", listing::rows_before()),
         ("judging, writing", calls::rows_before()),
     ] {
         let mut ratios: Vec<f64> = Vec::new();

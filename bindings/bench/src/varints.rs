@@ -11,9 +11,10 @@ use crate::Row;
 const COUNT: usize = 1_000_000;
 
 /// The buffers: how they are named, and the bounds of their numbers.
-const BUFFERS: [(&str, &[u64]); 3] = [
+const BUFFERS: [(&str, &[u64]); 4] = [
     ("one byte", &[64]),
     ("two bytes", &[16_384]),
+    ("a random mix of one and two bytes", &[64, 16_384]),
     (
         "a random mix of the four sizes",
         &[64, 16_384, 1 << 30, 1 << 62],
@@ -57,6 +58,19 @@ fn plain(bytes: &[u8]) -> u64 {
 fn archive(bytes: &[u8], archive: Archive) -> u64 {
     sum(bytes, |bytes| {
         let read = archive.read_varint(bytes);
+        (read.size != 0).then_some((read.value, read.size as usize))
+    })
+}
+
+/// The reading before request 3 (crate varint_before).
+#[cfg(now)]
+fn before(bytes: &[u8]) -> u64 {
+    use maruzhenu::raw::Varint;
+    extern "C" {
+        fn mrz_read_varint_before(bytes: *const u8, length: usize) -> Varint;
+    }
+    sum(bytes, |bytes| {
+        let read = unsafe { mrz_read_varint_before(bytes.as_ptr(), bytes.len()) };
         (read.size != 0).then_some((read.value, read.size as usize))
     })
 }
@@ -125,6 +139,14 @@ pub fn rows() -> Vec<Row> {
         for &(peer, theirs, aim) in peers {
             let sides: [Work; 2] = [Box::new(|| ours(bytes)), Box::new(|| theirs(bytes))];
             rows.push(row(name, peer, aim, sides));
+        }
+        #[cfg(now)]
+        {
+            let now: Work = Box::new(|| archive(bytes, crate::base::NOW));
+            let sides = [now, Box::new(|| before(bytes))];
+            // request 3 aims at less time for short forms, and at no more for long ones
+            let aim = if bounds.len() < 4 { 0.8 } else { 1.05 };
+            rows.push(row(name, "the reading before request 3", Some(aim), sides));
         }
     }
     rows

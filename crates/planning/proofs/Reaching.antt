@@ -1,6 +1,6 @@
 -- What a piece comes to before the value, and the short way through a header. Assumes nothing.
 use Rattle.walks.proofs.Words.{_≡_, refl, sym, ap, _∙_, ℕ, _+_, _-_, _*_, _%_, _≤_, _<_, arith, Bool, true, false, leb, ltb, eqb, and-false, eq-eqb, ne-eqb, eqb-true, le-leb, lt-leb, lt-ltb, le-ltb, leb-true, ltb-true, ltb-false, List, [], _∷_, length, getD, take, drop, length-drop}
-use Rattle.planning.proofs.Terms.{Partial, Whole, Ends, num, numFrom, readVarint, takeVarint, front-one, front-whole, begins-whole, empty-is, Opening, Plan, Reached, Header, Long, Short, Stops, Value, extentOf, noBytes, planValue, planType, planBy, Within, Reaches, shortHeader, firstHeader, zero-one}
+use Rattle.planning.proofs.Terms.{Partial, Whole, Ends, num, numFrom, readVarint, takeVarint, front-one, front-whole, begins-whole, empty-is, Opening, Plan, Reached, Header, Long, Short, Stops, Value, extentOf, noBytes, planValue, planType, planBy, Within, Reaches, shortHeader, firstHeader, None, Found, readShort, first-one, first-two, first-long, none-found, split, zero-one}
 use Rattle.planning.proofs.Planning.{length-ends, type-ends}
 
 module _ (op : Opening) (p : List ℕ) where
@@ -73,18 +73,54 @@ module _ (p : List ℕ) (l : 3 ≤ length p) (t : ℕ) (isT : t ≡ getD p 0 0) 
   header-type h = rw (le-leb 3 (length p) l, lt-leb (getD p 0 0) 63 (omega arith))
 
   module _ (h : t ≤ 63) where
-    pub header-one : getD p 1 0 < 64 → (n : ℕ) → n ≡ getD p 1 0 → Short 2 t n ≡ shortHeader p
+    header-one : getD p 1 0 < 64 → Short 2 t (getD p 1 0) ≡ shortHeader p
     unfolding shortHeader
-    header-one k n isN = rw (le-leb 3 (length p) l, le-leb (getD p 0 0) 63 (omega arith), lt-ltb (getD p 1 0) 64 k, isT, isN)
+    header-one k = rw (le-leb 3 (length p) l, le-leb (getD p 0 0) 63 (omega arith), lt-ltb (getD p 1 0) 64 k, isT)
 
-    pub header-length : 128 ≤ getD p 1 0 → Long ≡ shortHeader p
+    header-length : 128 ≤ getD p 1 0 → Long ≡ shortHeader p
     unfolding shortHeader
     header-length k = rw (le-leb 3 (length p) l, le-leb (getD p 0 0) 63 (omega arith), le-ltb (getD p 1 0) 64 (omega arith), lt-leb (getD p 1 0) 127 (omega arith))
 
-    pub header-two : 64 ≤ getD p 1 0 → getD p 1 0 < 128 → (n d : ℕ) → n ≡ getD p 1 0 - 64 → d ≡ getD p 2 0 → Short 3 t (n * 256 + d) ≡ shortHeader p
+    header-two : 64 ≤ getD p 1 0 → getD p 1 0 < 128 → Short 3 t ((getD p 1 0 - 64) * 256 + getD p 2 0) ≡ shortHeader p
     unfolding shortHeader
-    header-two j k n d isN isD =
-        rw (le-leb 3 (length p) l, le-leb (getD p 0 0) 63 (omega arith), le-ltb (getD p 1 0) 64 (omega arith), le-leb (getD p 1 0) 127 (omega arith), isT, isN, isD)
+    header-two j k =
+        rw (le-leb 3 (length p) l, le-leb (getD p 0 0) 63 (omega arith), le-ltb (getD p 1 0) 64 (omega arith), le-leb (getD p 1 0) 127 (omega arith), isT)
+
+-- the length is a short form after the type's byte
+module _ (a : ℕ) (s : List ℕ) (l : 2 ≤ length s) (h : a ≤ 63) where
+  header-found : getD s 1 0 < 256 → (n k : ℕ) → readShort s ≡ Found n k → Short (1 + k) a n ≡ shortHeader (a ∷ s)
+  header-found c n k f = split 128 (getD s 0 0) (λ m. none-found (sym (first-long s (omega arith) m)) f)
+      (λ m. split 64 (getD s 0 0)
+      (λ j.
+      let q : Found ((getD s 0 0 * 256 + getD s 1 0) % 16384) 2 ≡ Found n k = first-two s j m l ∙ f in
+      let isN : n ≡ (getD s 0 0 * 256 + getD s 1 0) % 16384 = cc in
+      let isK : k ≡ 2 = cc in
+      let e : n ≡ (getD s 0 0 - 64) * 256 + getD s 1 0 = omega arith in
+      rw (isK, e) (header-two (a ∷ s) (omega arith) a refl h j m))
+      (λ j.
+      let q : Found (getD s 0 0) 1 ≡ Found n k = first-one s (omega arith) j ∙ f in
+      let isN : n ≡ getD s 0 0 = cc in
+      let isK : k ≡ 1 = cc in
+      rw (isK, isN) (header-one (a ∷ s) (omega arith) a refl h j)))
+
+  header-none : readShort s ≡ None → Long ≡ shortHeader (a ∷ s)
+  header-none f = split 128 (getD s 0 0) (header-length (a ∷ s) (omega arith) a refl h)
+      (λ m. split 64 (getD s 0 0) (λ j. none-found f (sym (first-two s j m l))) (λ j. none-found f (sym (first-one s (omega arith) j))))
+
+module _ (p : List ℕ) (l : 3 ≤ length p) (t : ℕ) (isT : t ≡ getD p 0 0) (h : t ≤ 63) where
+  pub header-short : getD p 2 0 < 256 → (n k : ℕ) → readShort (drop 1 p) ≡ Found n k → Short (1 + k) t n ≡ shortHeader p
+  header-short c n k f = go p l isT c f
+    where
+      go : (p : List ℕ) → 3 ≤ length p → t ≡ getD p 0 0 → getD p 2 0 < 256 → readShort (drop 1 p) ≡ Found n k → Short (1 + k) t n ≡ shortHeader p
+      go [] l e c f = absurd (let z : ⊥ = omega arith in z)
+      go (a ∷ s) l e c f = rw e (header-found a s (omega arith) (omega arith) c n k f)
+
+  pub header-long : readShort (drop 1 p) ≡ None → Long ≡ shortHeader p
+  header-long f = go p l isT f
+    where
+      go : (p : List ℕ) → 3 ≤ length p → t ≡ getD p 0 0 → readShort (drop 1 p) ≡ None → Long ≡ shortHeader p
+      go [] l e f = absurd (let z : ⊥ = omega arith in z)
+      go (a ∷ s) l e f = header-none a s (omega arith) (omega arith) f
 
 -- what a short header comes to
 unfoldable ShortReaches : Opening → List ℕ → Header → Type 0

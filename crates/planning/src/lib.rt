@@ -9,6 +9,8 @@ ghost use Rattle.planning.specs.Reaching.{Reaches};
 ghost use Rattle.planning.specs.Headers.{shortHeader, firstHeader};
 use opening::Opening;
 use opening::Report;
+use short_forms::ShortForm;
+use short_forms::read_short;
 use wire::partial::Partial;
 use wire::partial::VarintTaken;
 use wire::varint::Varint;
@@ -73,21 +75,13 @@ pub fn short_header(piece: &[u8]) -> Header
     if ctype > Varint::MAX_OF_1 {
         return Header::Long;
     }
-    let first = piece[1];
-    if first < Varint::FIRST_OF_2 {
-        return Header::Short {
-            at: 2,
+    match read_short(&piece[1..]) {
+        ShortForm::None => Header::Long,
+        ShortForm::Found { value, size } => Header::Short {
+            at: 1 + size,
             ctype: ctype,
-            size: wide(first),
-        };
-    }
-    if first >= Varint::FIRST_OF_4 {
-        return Header::Long;
-    }
-    Header::Short {
-        at: 3,
-        ctype: ctype,
-        size: wide(first - Varint::FIRST_OF_2) * 256 + wide(piece[2]),
+            size: value,
+        },
     }
 }
 

@@ -7,6 +7,8 @@ use mathlib.Core.List.{List, [], _∷_, _++_}
 use lib.ListN.{length, take}
 use lib.Seq.{sets}
 use Rattle.refusals.specs.declared.Refusal.{Refusal}
+use Rattle.short_forms.specs.declared.ShortForm.the-variants.{Found}
+use Rattle.short_forms.specs.Short.{readShort}
 use Rattle.wire.specs.declared.varint.Varint.the-variants.{Incomplete, Whole}
 use Rattle.wire.specs.declared.varint.Written.the-variants.{Refused, Wrote}
 use Rattle.wire.specs.declared.partial.Partial.{Partial}
@@ -17,6 +19,7 @@ use Rattle.wire.specs.declared.units.QuarterOf.the-variants as quarter
 use Rattle.wire.specs.declared.units.StreamOf.the-variants as stream
 use Rattle.wire.specs.Bytes.{Bytes}
 use Rattle.wire.specs.Varint.{largest, sizeOf, readVarint, encodeAs, leastSize, encode}
+use Rattle.wire.specs.Long.{readLong}
 use Rattle.wire.specs.Writing.{Writing, writeVarint}
 use Rattle.wire.specs.Partial.{partialOf, isPartial, takenOf, takeVarint}
 use Rattle.wire.specs.Units.{IsRequestStream, largestQuarter, quarterOf, streamOf}
@@ -34,6 +37,16 @@ FirstBytesOnly = (s rest : List ℕ) (value size : ℕ) → readVarint s ≡ Who
 
 abbrev pub NeverAboveLargest : Type 0
 NeverAboveLargest = (s : List ℕ) (value size : ℕ) → Bytes s → readVarint s ≡ Whole value size → (value ≤ largest) × (size ≤ 8) × (size ≤ length s)
+
+-- ---- short and long forms (proofs/Forms.antt)
+
+-- a short form is found exactly where reading answers a size of 1 or 2, with the same value and size
+abbrev pub ShortExactly : Type 0
+ShortExactly = (s : List ℕ) (value size : ℕ) → (readShort s ≡ Found value size) ↔ ((readVarint s ≡ Whole value size) × (size ≤ 2))
+
+-- and a long one exactly where it answers a size of 4 or more
+abbrev pub LongExactly : Type 0
+LongExactly = (s : List ℕ) (value size : ℕ) → (readLong s ≡ Whole value size) ↔ ((readVarint s ≡ Whole value size) × (4 ≤ size))
 
 -- ---- writing (proofs/Encoding.antt)
 

@@ -1,5 +1,6 @@
 pub mod Bytes
 pub mod Varint
+pub mod Long
 pub mod Writing
 pub mod Partial
 pub mod Units

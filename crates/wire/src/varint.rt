@@ -5,8 +5,11 @@ ghost use lib.ListN.{length, take, drop};
 ghost use lib.Seq.{sets};
 ghost use Rattle.wire.specs.Bytes.{num, bytesOf};
 ghost use Rattle.wire.specs.Varint.{sizeOf, readVarint, leastSize, encode, largest};
+ghost use Rattle.wire.specs.Long.{readLong};
 ghost use Rattle.wire.specs.Writing.{writing, writeVarint};
 use refusals::Refusal;
+use short_forms::ShortForm;
+use short_forms::read_short;
 
 // What stands at the front of some bytes.
 pub enum Varint {
@@ -26,9 +29,9 @@ impl Varint {
     pub const MAX_OF_4: u64 = 1073741823;
 
     // the least first byte of two, of four and of eight
-    pub const FIRST_OF_2: u8 = 0x40;
+    pub const FIRST_OF_2: u8 = ShortForm::FIRST_OF_2;
 
-    pub const FIRST_OF_4: u8 = 0x80;
+    pub const FIRST_OF_4: u8 = ShortForm::FIRST_OF_4;
 
     pub const FIRST_OF_8: u8 = 0xc0;
 
@@ -45,28 +48,30 @@ pub enum Written {
     Wrote(usize),
 }
 
+// The short forms are tried first.
 pub fn read_varint(s: &[u8]) -> Varint
     ensures { λ r. ⌜ r ≡ readVarint (now (s .entry)) ⌝ }
+{
+    match read_short(s) {
+        ShortForm::Found { value, size } => Varint::Whole {
+            value: value,
+            size: size,
+        },
+        ShortForm::None => read_long(s),
+    }
+}
+
+// A form of four or eight bytes; incomplete also where a form of one or two bytes is there.
+pub fn read_long(s: &[u8]) -> Varint
+    ensures { λ r. ⌜ r ≡ readLong (now (s .entry)) ⌝ }
 {
     let room = s.len();
     if room == 0 {
         return Varint::Incomplete;
     }
     let first = s[0];
-    if first < Varint::FIRST_OF_2 {
-        return Varint::Whole {
-            value: wide(first),
-            size: 1,
-        };
-    }
     if first < Varint::FIRST_OF_4 {
-        if room < 2 {
-            return Varint::Incomplete;
-        }
-        return Varint::Whole {
-            value: number2(s, 0) % 16384,
-            size: 2,
-        };
+        return Varint::Incomplete;
     }
     if room >= 8 {
         return long_form(first, number8(s, 0));

@@ -1,13 +1,17 @@
--- One law of Reaching for each way through the tests.
-use Rattle.walks.proofs.Words.{arith, needs}
-use Rattle.planning.proofs.Reaching.{header-few, header-type, header-one, header-length, header-two}
+-- The type by its test, the length by `read_short`: `header-short` and `header-long` of Reaching.
+use Rattle.walks.proofs.Words.{arith, _≡_, sym, ap, _∙_, drop, needs}
+use Rattle.planning.proofs.Terms.{readShort, short-exactly}
+use Rattle.planning.proofs.{Planning.rest-of, Reaching.header-few, Reaching.header-type, Reaching.header-short, Reaching.header-long}
 use Rattle.planning.proofs.short_header as this
 
-returns-3 : this.Tie.Need-returns-3
-returns-3 c = header-one _ (c .before .before .before .before .before .before .if1 .left) _ (c .before .before .before .before .wide .ensures) (c .before .before .before .if2 .left) (c .before .if3 .taken) _ (c .wide2 .ensures)
+length-read : (c : this.Tie.After-read-short) → c .read-short .result ≡ readShort (drop 1 (c .before .before .before .before .before .before .before .args .piece .now))
+length-read c = c .read-short .ensures ∙ ap readShort (rest-of (c .before .before .before .before .before .before .before .args .piece .now) 1)
 
-returns-5 : this.Tie.Need-returns-5
-returns-5 c = header-two _ (c .before .before .before .before .before .before .before .before .before .if1 .left) _ (c .before .before .before .before .before .before .before .wide .ensures) (c .before .before .before .before .before .before .if2 .left) (c .before .before .before .before .if3 .left) (c .before .before .before .if4 .left) _ _ (c .before .before .wide3 .ensures) (c .wide4 .ensures)
+returns-3 : this.Tie.Need-returns-3
+returns-3 c = header-long _ (c .before .before .before .before .before .before .before .if1 .left) _ (c .before .before .before .before .before .wide .ensures) (c .before .before .before .before .if2 .left) (sym (length-read (c .before .before)) ∙ c .enum-told .given .1)
+
+returns-4 : this.Tie.Need-returns-4
+returns-4 c = header-short _ (c .before .before .before .before .before .before .before .before .if1 .left) _ (c .before .before .before .before .before .before .wide .ensures) (c .before .before .before .before .before .if2 .left) (c .before .before .before .before .before .before .before .before .before .shared-slice-known .given 2 .fits) _ _ (sym (length-read (c .before .before .before)) ∙ c .before .value .given .1)
 
 pub short-header-spec : {M : Type 1} → this.Statement.statement M
 short-header-spec =
@@ -15,11 +19,7 @@ short-header-spec =
     (λ c. header-few _ (c .if1 .taken))
     (λ c. search needs) (λ c κs. search needs)
     (λ c. header-type _ (c .before .before .before .if1 .left) _ (c .before .wide .ensures) (c .if2 .taken))
-    (λ c. search needs) (λ c κs. search needs)
+    (λ c. search needs) (λ c. search needs) (λ c. search needs) (λ c κs. search needs) (λ c. search needs) (λ c. search needs)
+    (λ c. omega (arith, short-exactly _ _ _ .0 (sym (length-read (c .before .before .before)) ∙ c .before .value .given .1) .1))
     returns-3
-    (λ c. header-length _ (c .before .before .before .before .before .before .if1 .left) _ (c .before .before .before .before .wide .ensures) (c .before .before .before .if2 .left) (c .if4 .taken))
-    (λ c κs. search needs)
-    (λ c. omega (arith, c .wide3 .ensures, c .before .if4 .left))
-    (λ c. search needs) (λ c κs. search needs)
-    (λ c. omega (arith, c .before .before .wide3 .ensures, c .before .before .before .if4 .left, c .before .shared-slice-known4 .given 2))
-    returns-5)
+    returns-4)
