@@ -5,7 +5,8 @@
  * cut at random places. The relay has two sessions, a server towards the client and a client towards the origin, and
  * reads both directions of every tunnel with a reader as intermediary: capsules of unknown type pass as they came,
  * datagrams are read and written anew. Some tunnels end inside a capsule, some are reset, some come with malformed
- * messages. In the end what each end got is compared with what the other one sent.
+ * messages, some do not say that they have capsules and pass as they are. In the end what each end got is compared with
+ * what the other one sent.
  *
  * What a host would take over is the part "the relay", with the callbacks; the ends and their scripts try it.
  *
@@ -46,7 +47,10 @@ static size_t random_below(size_t bound) {
     return (size_t)(random_state % bound);
 }
 
-/* Neither nghttp2 nor the library refuses anything in this program: if one does, the program is wrong. */
+/*
+ * Apart from field values that are too long, neither nghttp2 nor the library refuses anything in this program: if one
+ * does, the program is wrong.
+ */
 static void expect(const char *what, int64_t expected, int64_t came) {
     if (expected != came) {
         printf("h2_relay: %s: expected %" PRId64 ", came %" PRId64 "\n", what, expected, came);
@@ -201,7 +205,8 @@ static void make_tunnels(void) {
 
 /* The fields of a message that say how its content is read. */
 struct message {
-    char path[24], status[24], protocol[24]; /* protocol: the value of Capsule-Protocol */
+    char path[24], status[24];
+    char protocol[2 * MRZ_LONGEST_FIELD_VALUE]; /* the value of Capsule-Protocol, which is passed on as it came */
     unsigned content_length, content_type, transfer_encoding;
 };
 
@@ -235,6 +240,7 @@ static struct peer {
 } client, relay_server, relay_client, origin;
 
 static unsigned truncated_in[4]; /* by MRZ_FIELD_.. */
+static unsigned fields_too_long; /* values of Capsule-Protocol that the library refused to read */
 
 static struct leg *leg_of(nghttp2_session *session, int32_t id) {
     return nghttp2_session_get_stream_user_data(session, id);
@@ -289,18 +295,25 @@ static uint64_t number_of(const char *digits) {
     return strtoul(digits, NULL, 10);
 }
 
-/* Whether a message's content is capsules. The field counts on requests, and on responses of certain statuses alone. */
+/*
+ * Whether a message's content is capsules. The field counts on requests, and on responses of certain statuses alone. A
+ * value that is too long to be read is treated as absent, and counted.
+ */
 static int says_capsules(const struct message *message, int response) {
-    return mrz_field_counts((uint64_t)response, number_of(message->status)) &&
-           mrz_field_in_use((const uint8_t *)message->protocol, strlen(message->protocol));
+    mrz_field value;
+    if (!mrz_field_counts((uint64_t)response, number_of(message->status))) {
+        return 0;
+    }
+    value = mrz_field_in_use((const uint8_t *)message->protocol, strlen(message->protocol));
+    fields_too_long += value.refusal == MRZ_REFUSAL_FIELD_TOO_LONG;
+    return value.refusal == MRZ_NOT_REFUSED && value.in_use;
 }
 
-static void open_reader(struct leg *leg, int response, uint64_t role, uint64_t limit) {
+static void open_reader(struct leg *leg, uint64_t role, uint64_t limit) {
     mrz_opening opening = {0};
     opening.role = role;
     opening.datagram_limit = limit;
     leg->read = 1;
-    leg->capsules = says_capsules(&leg->message, response);
     if (leg->capsules) {
         expect("opening a reader", MRZ_NOT_REFUSED, (int64_t)mrz_reader_open(&leg->reader, opening));
     }
@@ -409,14 +422,15 @@ static void relay_headers(struct leg *leg) {
     const struct message *m = &leg->message;
     const int response = leg->peer == &relay_client;
     const size_t has_protocol = m->protocol[0] != 0;
-    if (says_capsules(m, response) &&
+    leg->capsules = says_capsules(m, response);
+    if (leg->capsules &&
         (response ? mrz_response_malformed(number_of(m->status), m->content_length, m->content_type,
                                            m->transfer_encoding)
                   : mrz_request_malformed(m->content_length, m->content_type, m->transfer_encoding))) {
         reset_tunnel(leg, NGHTTP2_PROTOCOL_ERROR);
         return;
     }
-    open_reader(leg, response, MRZ_ROLE_INTERMEDIARY, RELAY_LIMIT);
+    open_reader(leg, MRZ_ROLE_INTERMEDIARY, RELAY_LIMIT);
     if (response) {
         const nghttp2_nv fields[] = {field(":status", m->status), field("capsule-protocol", m->protocol)};
         submit(leg->mate, fields, 1 + has_protocol, relay_read);
@@ -503,18 +517,27 @@ static void end_take(struct leg *leg, const uint8_t *piece, size_t length) {
     }
 }
 
+/* Values of Capsule-Protocol that say "in use", with parameters too; one for each variant of a tunnel. */
+static const char *const in_use[] = {"?1", "?1;v=2", "?1; from=\"a, b\"; *w=-1.5"};
+
+/* One that would say so, and is one byte too long. */
+static char too_long[MRZ_LONGEST_FIELD_VALUE + 2];
+
 static void end_headers(struct leg *leg) {
     if (leg->peer == &origin) {
         struct tunnel *tunnel = &tunnels[number_of(leg->message.path + 1) % TUNNELS];
         const int refused = tunnel->kind == REFUSED, bad = tunnel->kind == MALFORMED_RESPONSE;
         const int partial = bad && tunnel->variant == 0, typed = refused || (bad && !partial);
+        const int plain = tunnel->kind == PLAIN, no_field = plain && tunnel->variant == 0;
         /* With 404 the field does not count: the content is not capsules, and may have a type. */
         const nghttp2_nv fields[] = {field(":status", refused ? "404" : partial ? "206" : "200"),
-                                     field("capsule-protocol", "?1"), field("content-type", "text/plain")};
+                                     field("capsule-protocol", plain ? too_long : in_use[tunnel->variant]),
+                                     field("content-type", "text/plain")};
         leg->end = &tunnel->origin;
-        submit(leg, fields, tunnel->kind == PLAIN ? 1 : typed ? 3 : 2, end_read);
+        submit(leg, fields, no_field ? 1 : typed ? 3 : 2, end_read);
     }
-    open_reader(leg, leg->peer == &client, MRZ_ROLE_ENDPOINT, END_LIMIT);
+    leg->capsules = says_capsules(&leg->message, leg->peer == &client);
+    open_reader(leg, MRZ_ROLE_ENDPOINT, END_LIMIT);
 }
 
 static void end_end(struct leg *leg) {
@@ -535,7 +558,8 @@ static void start_tunnel(unsigned number) {
     struct tunnel *tunnel = &tunnels[number];
     struct leg *leg = new_leg(&client, 0);
     char path[16] = "";
-    nghttp2_nv fields[] = {CONNECT(path), field("capsule-protocol", "?1"), field("capsule-protocol", "?1")};
+    nghttp2_nv fields[] = {CONNECT(path), field("capsule-protocol", in_use[tunnel->variant]),
+                           field("capsule-protocol", "?1")};
     size_t count = 6;
     sprintf(path, "/%u", number % TUNNELS);
     fields[4] = field(":path", path);
@@ -580,8 +604,8 @@ static int on_header(nghttp2_session *session, const nghttp2_frame *frame, const
     m->transfer_encoding |= IS("transfer-encoding");
     text = IS(":path") ? m->path : IS(":status") ? m->status : IS("capsule-protocol") ? m->protocol : NULL;
     if (text != NULL) {
-        const size_t used = strlen(text);
-        if (used + 2 + length >= sizeof m->path) {
+        const size_t used = strlen(text), room = text == m->protocol ? sizeof m->protocol : sizeof m->path;
+        if (used + 2 + length >= room) {
             return NGHTTP2_ERR_TEMPORAL_CALLBACK_FAILURE; /* cut short it could mean something else */
         }
         sprintf(text + used, "%s%.*s", used > 0 ? ", " : "", (int)length, (const char *)value);
@@ -756,6 +780,7 @@ static unsigned compare(void) {
            total_sent, total_got, total.datagrams, total.dropped, total.others, total.sum);
     printf("truncated in a type: %u, in a length: %u, in a value: %u\n", truncated_in[MRZ_FIELD_TYPE],
            truncated_in[MRZ_FIELD_LENGTH], truncated_in[MRZ_FIELD_VALUE]);
+    printf("field values that are too long, treated as absent: %u\n", fields_too_long);
     for (i = 0; i < 4; i++) {
         if (peers[i]->came != peers[i]->given_back) {
             printf("session %u: %" PRIu64 " bytes came, %" PRIu64 " were given back\n", i, peers[i]->came,
@@ -769,6 +794,8 @@ static unsigned compare(void) {
 int main(void) {
     unsigned i, wrong;
     make_tunnels();
+    memset(too_long, 'a', sizeof too_long - 1);
+    memcpy(too_long, "?1;v=", 5);
     open_peer(&client, 0, NULL);
     open_peer(&relay_server, 1, &relay_client);
     open_peer(&relay_client, 0, &relay_server);

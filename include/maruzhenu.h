@@ -46,9 +46,9 @@ extern "C" {
 
 /* The version of this header. The pkg-config file has the same one. */
 #define MRZ_VERSION_MAJOR 0
-#define MRZ_VERSION_MINOR 3
+#define MRZ_VERSION_MINOR 4
 #define MRZ_VERSION_PATCH 0
-#define MRZ_VERSION "0.3.0"
+#define MRZ_VERSION "0.4.0"
 
 /* ---- refusals */
 
@@ -71,6 +71,7 @@ extern "C" {
 #define MRZ_REFUSAL_BUFFER_TOO_LONG 16      /* more than 4,096 bytes to list */
 #define MRZ_REFUSAL_UNKNOWN_ERROR_OR_VERSION 17 /* no error number, or no HTTP version */
 #define MRZ_REFUSAL_ADDRESSES_TOO_SHORT 18  /* address buffer shorter than 1,024 bytes (endpoint that opted in) */
+#define MRZ_REFUSAL_FIELD_TOO_LONG 19       /* value of the Capsule-Protocol field longer than 1,024 bytes */
 #define MRZ_REFUSAL_MALFORMED_TO_WRITE 26   /* entries whose value a reader would report as malformed */
 
 /* The name of a refusal, for logs; "unknown" for a number that is no refusal. */
@@ -95,6 +96,7 @@ static inline const char *mrz_refusal_name(uint64_t refusal) {
     case MRZ_REFUSAL_BUFFER_TOO_LONG: return "buffer too long";
     case MRZ_REFUSAL_UNKNOWN_ERROR_OR_VERSION: return "unknown error or version";
     case MRZ_REFUSAL_ADDRESSES_TOO_SHORT: return "addresses too short";
+    case MRZ_REFUSAL_FIELD_TOO_LONG: return "field too long";
     case MRZ_REFUSAL_MALFORMED_TO_WRITE: return "malformed to write";
     default: return "unknown";
     }
@@ -504,7 +506,7 @@ mrz_written mrz_write_address_request(const mrz_address *addresses, size_t addre
 mrz_written mrz_write_route_advertisement(const mrz_route *routes, size_t routes_size,
                                           uint8_t *out, size_t out_len, uint64_t place);
 
-/* ---- settings, messages, errors. Only mrz_translate can be refused. */
+/* ---- settings, messages, errors. Only mrz_field_in_use and mrz_translate can be refused. */
 
 /*
  * Checks a received SETTINGS_H3_DATAGRAM. stored: the value stored for 0-RTT, 0 if none is stored. Answers
@@ -526,11 +528,30 @@ uint64_t mrz_response_malformed(uint64_t status, uint64_t content_length, uint64
  */
 uint64_t mrz_field_counts(uint64_t response, uint64_t status);
 
+#define MRZ_LONGEST_FIELD_VALUE 1024
+
+/* in_use: 1 if the value says that the Capsule Protocol is in use, otherwise 0; 0 also if the call was refused */
+typedef struct mrz_field { uint64_t refusal, in_use; } mrz_field;
+
 /*
- * Whether the value of the Capsule-Protocol field says that the protocol is in use: 1 or 0. It does exactly if it is ?1
- * without the spaces at both ends (0x20 only, no tabs).
+ * Reads the value of the Capsule-Protocol field as an Item of Structured Field Values (RFC 8941). Changes nothing.
+ * Refusals: 19, before anything is read. Every byte counts, spaces too. A refused value was not read, so it is neither
+ * in use nor absent: what to do then is the host's decision.
+ *
+ * in_use is 1 exactly if the value is the Boolean true, ?1, with any number of well-formed parameters, as in ?1;v=2.
+ * Parameters are read and ignored. Spaces (0x20, no tabs) are allowed at both ends, after the semicolon of a parameter
+ * and in strings, and nowhere else. In a byte sequence only the alphabet is checked (letters, digits, + / =), not that
+ * it can be decoded.
+ *
+ * in_use is 0 in every other case that is not refused, and the field is then to be treated as absent: an empty value,
+ * ?0, an Item of another type, a list, an inner list, and any syntax error, in a parameter or elsewhere. Dates and
+ * display strings (RFC 9651) are no Items of RFC 8941: a parameter with one is a syntax error.
+ *
+ * The value is the field's value without its name, and without the spaces and tabs around it that HTTP removes (RFC
+ * 9110, section 5.5): a tab that is left makes it absent. A host that receives several lines of the field must first
+ * join their values, in order and with ", " between them. Two lines ?1 are then ?1, ?1, which is a list: in_use is 0.
  */
-uint64_t mrz_field_in_use(const uint8_t *value, size_t value_len);
+mrz_field mrz_field_in_use(const uint8_t *value, size_t value_len);
 
 #define MRZ_VERSION_HTTP_1_1 1
 #define MRZ_VERSION_HTTP_2 2
@@ -576,7 +597,7 @@ MRZ_LAYOUT(sizeof(mrz_varint) == 16 && sizeof(mrz_written) == 16 && sizeof(mrz_f
 MRZ_LAYOUT(sizeof(mrz_look) == 72 && sizeof(mrz_listing) == 32 && sizeof(mrz_opened) == 16 && sizeof(mrz_found) == 16);
 MRZ_LAYOUT(sizeof(mrz_side_closed) == 24 && sizeof(mrz_quarter) == 16 && sizeof(mrz_stream_id) == 16);
 MRZ_LAYOUT(sizeof(mrz_judged) == 56 && sizeof(mrz_address_found) == 48 && sizeof(mrz_route_found) == 56);
-MRZ_LAYOUT(sizeof(mrz_translation) == 24);
+MRZ_LAYOUT(sizeof(mrz_field) == 16 && sizeof(mrz_translation) == 24);
 #undef MRZ_LAYOUT
 #endif
 

@@ -36,7 +36,7 @@ static void compare(int line, const char *what, uint64_t expected, uint64_t foun
 static void version(void) {
     char text[40];
     IS(0, MRZ_VERSION_MAJOR);
-    IS(3, MRZ_VERSION_MINOR);
+    IS(4, MRZ_VERSION_MINOR);
     IS(0, MRZ_VERSION_PATCH);
     sprintf(text, "%d.%d.%d", MRZ_VERSION_MAJOR, MRZ_VERSION_MINOR, MRZ_VERSION_PATCH);
     IS(0, strcmp(MRZ_VERSION, text) != 0);
@@ -70,8 +70,9 @@ static void names(void) {
     name(16, MRZ_REFUSAL_BUFFER_TOO_LONG, "buffer too long");
     name(17, MRZ_REFUSAL_UNKNOWN_ERROR_OR_VERSION, "unknown error or version");
     name(18, MRZ_REFUSAL_ADDRESSES_TOO_SHORT, "addresses too short");
+    name(19, MRZ_REFUSAL_FIELD_TOO_LONG, "field too long");
     name(26, MRZ_REFUSAL_MALFORMED_TO_WRITE, "malformed to write");
-    name(19, 19, "unknown");
+    name(20, 20, "unknown");
     name(25, 25, "unknown");
     name(27, 27, "unknown");
     name(UINT64_MAX, UINT64_MAX, "unknown");
@@ -685,9 +686,73 @@ static void messages(void) {
     IS(1, mrz_field_counts(1, 200));
     IS(1, mrz_field_counts(1, 299));
     IS(0, mrz_field_counts(1, 300));
-    IS(1, mrz_field_in_use(BYTES("  ?1 ")));
-    IS(0, mrz_field_in_use(BYTES("?0")));
-    IS(0, mrz_field_in_use(BYTES("\t?1")));
+}
+
+/* ---- the value of the Capsule-Protocol field */
+
+static void field_is(int line, uint64_t refusal, uint64_t in_use, mrz_field field) {
+    SAME(field, refusal);
+    SAME(field, in_use);
+}
+
+#define FIELD(in_use, text) field_is(__LINE__, MRZ_NOT_REFUSED, in_use, mrz_field_in_use(BYTES(text)))
+
+/* A value with spaces behind it, of this length. */
+static mrz_field padded(const char *text, size_t length) {
+    static uint8_t value[MRZ_LONGEST_FIELD_VALUE + 1];
+    memset(value, ' ', sizeof value);
+    memcpy(value, text, strlen(text));
+    return mrz_field_in_use(value, length);
+}
+
+static void field_values(void) {
+    FIELD(1, "?1");
+    FIELD(1, "  ?1 ");
+    FIELD(1, "?1;v=2");
+    FIELD(1, "?1;   v");
+    FIELD(1, " ?1;v=1; w=2 ");
+    FIELD(1, "?1;*a.b-c_d*9");
+    FIELD(1, "?1;a=1;a=\"x\"");
+    FIELD(1, "?1;v=-0");
+    FIELD(1, "?1;v=123456789012345");
+    FIELD(1, "?1;v=123456789012.999");
+    FIELD(1, "?1;v=\"\\\\\"");
+    FIELD(1, "?1;v=::");
+    FIELD(1, "?1;v=:=:");
+    FIELD(1, "?1;a=?0;b=:Zg:;c=\"x\\\"\";d=*t;e=-1.5");
+
+    FIELD(0, "");
+    FIELD(0, "?0");
+    FIELD(0, "?1 ;v");
+    FIELD(0, "?1;");
+    FIELD(0, "?1;v =1");
+    FIELD(0, "?1;v=");
+    FIELD(0, "?1;V=1");
+    FIELD(0, "?1;v=1234567890123456");
+    FIELD(0, "?1;v=0000000000000000");
+    FIELD(0, "?1;v=1234567890123.9");
+    FIELD(0, "?1;v=1.9999");
+    FIELD(0, "?1;v=1.");
+    FIELD(0, "?1;v=\"\\a\"");
+    FIELD(0, "?1;v=:Zg");
+    FIELD(0, "?1;v=:-_:");
+    FIELD(0, "?1,?1");
+    FIELD(0, "?1, ?1");
+    FIELD(0, "?1;v=(1)");
+    FIELD(0, "?10");
+    FIELD(0, "?1\t");
+    FIELD(0, "\t?1");
+    FIELD(0, "1");
+    FIELD(0, "?1;v=@1");
+    FIELD(0, "?1;v=%\"x\"");
+    FIELD(0, "\x80");
+    FIELD(0, "?1;v=\"\x80\"");
+
+    IS(1024, MRZ_LONGEST_FIELD_VALUE);
+    field_is(__LINE__, MRZ_NOT_REFUSED, 1, padded("?1", MRZ_LONGEST_FIELD_VALUE));
+    field_is(__LINE__, MRZ_NOT_REFUSED, 0, padded("?0", MRZ_LONGEST_FIELD_VALUE));
+    field_is(__LINE__, MRZ_REFUSAL_FIELD_TOO_LONG, 0, padded("?1", MRZ_LONGEST_FIELD_VALUE + 1));
+    field_is(__LINE__, MRZ_REFUSAL_FIELD_TOO_LONG, 0, padded("?0", MRZ_LONGEST_FIELD_VALUE + 1));
 }
 
 static void translated(int line, uint64_t refusal, uint64_t action, uint64_t code, mrz_translation translation) {
@@ -741,6 +806,7 @@ int main(void) {
     entries();
     address_writers();
     messages();
+    field_values();
     translation();
     printf("%d values compared, %d differ\n", compared, failures);
     return failures != 0;

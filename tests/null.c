@@ -136,7 +136,8 @@ static void calls(const char *where, struct empty at) {
     expect("read", 0, mrz_read_varint(at.bytes, 0).size);
     expect("write", MRZ_REFUSAL_OUTPUT_TOO_SHORT, mrz_write_varint(1, at.out, 0, 0).refusal);
     expect("list", MRZ_END_CLEAN, mrz_list(at.bytes, 0).end);
-    expect("field", 0, mrz_field_in_use(at.bytes, 0));
+    expect("field", 0, mrz_field_in_use(at.bytes, 0).refusal);
+    expect("field", 0, mrz_field_in_use(at.bytes, 0).in_use);
     readers(at);
     tables(at);
     entries(at);

@@ -1,5 +1,5 @@
 //! Links the peers that bench/calls could build, and the archive of an earlier state: each variable names the folder of
-//! one.
+//! one. BASE_FIELD says what the earlier archive's mrz_field_in_use answers, "number" (before 0.4.0) or "struct".
 
 use std::env;
 
@@ -22,6 +22,12 @@ fn main() {
             }
             println!("cargo:rustc-cfg={cfg}");
         }
+    }
+    println!("cargo:rerun-if-env-changed=BASE_FIELD");
+    println!("cargo:rustc-check-cfg=cfg(base_field, values(none(), \"number\", \"struct\"))");
+    if let (Ok(_), Ok(answer)) = (env::var("BASE_PEER"), env::var("BASE_FIELD")) {
+        println!("cargo:rustc-cfg=base_field");
+        println!("cargo:rustc-cfg=base_field=\"{answer}\"");
     }
     if env::var("NGHTTP3_PEER").is_ok() {
         println!("cargo:rustc-link-lib=static=nghttp3");

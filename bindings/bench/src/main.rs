@@ -5,6 +5,7 @@ mod addresses;
 mod base;
 mod calls;
 mod feeding;
+mod fields;
 mod listing;
 mod measure;
 mod plot;
@@ -62,7 +63,11 @@ fn table_before(revision: &str) {
         ("varints", varints::rows_before()),
         ("listing", listing::rows_before()),
         ("judging, writing", calls::rows_before()),
+        ("field", fields::rows_before()),
     ] {
+        if rows.is_empty() {
+            continue;
+        }
         let mut ratios: Vec<f64> = Vec::new();
         for row in rows {
             let ratio = row.ours / row.theirs;
@@ -126,6 +131,7 @@ fn main() -> ExitCode {
     table("Reading varints", varints::rows());
     table("Judging, writing", calls::rows());
     table("Address capsules", addresses::rows());
+    table("The Capsule-Protocol field", fields::rows());
     if cfg!(base) {
         table_before(&env::var("MARUZHENU_BASE_NAME").unwrap_or_default());
     }

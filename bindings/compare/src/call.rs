@@ -316,7 +316,7 @@ pub const FUNCTIONS: [(&str, &[&str], &[u64]); 30] = [
     ("mrz_request_malformed", &["malformed"], &[]),
     ("mrz_response_malformed", &["malformed"], &[]),
     ("mrz_field_counts", &["counts"], &[]),
-    ("mrz_field_in_use", &["in use"], &[]),
+    ("mrz_field_in_use", &["refusal", "in use"], &[19]),
     ("mrz_translate", &["refusal", "action", "code"], &[17]),
 ];
 

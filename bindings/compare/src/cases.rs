@@ -2,6 +2,7 @@
 
 mod addresses;
 mod exhaustive;
+mod fields;
 mod small;
 mod streams;
 mod tables;
@@ -36,8 +37,10 @@ pub enum Kind {
     Varints,
     /// Buffers listed.
     Listings,
-    /// Settings, messages, the Capsule-Protocol field and errors.
+    /// Settings, messages and errors.
     Http,
+    /// Values of the Capsule-Protocol field.
+    FieldValues,
     /// Values of address capsules checked and split.
     AddressValues,
     /// A list of calls on a reader that takes address capsules.
@@ -47,7 +50,7 @@ pub enum Kind {
 }
 
 /// One round.
-const ROUND: [Kind; 21] = [
+const ROUND: [Kind; 22] = [
     Kind::Cuts,
     Kind::Calls,
     Kind::Words,
@@ -69,6 +72,7 @@ const ROUND: [Kind; 21] = [
     Kind::AddressWriters,
     Kind::AddressCalls,
     Kind::Http,
+    Kind::FieldValues,
 ];
 
 type Outcome = Result<(), Box<Difference>>;
@@ -94,10 +98,24 @@ pub fn run(seed: u64, number: u64, comparison: &mut Comparison) -> Outcome {
         Kind::Varints => small::varints(random, comparison),
         Kind::Listings => small::listings(random, comparison),
         Kind::Http => small::http(random, comparison),
+        Kind::FieldValues => fields::made(random, comparison),
         Kind::AddressValues => addresses::values(random, comparison),
         Kind::AddressCalls => streams::address_calls(random, comparison),
         Kind::AddressWriters => addresses::writers(random, comparison),
     }
+}
+
+/// Every row of up to so many of these bytes.
+fn rows(symbols: &[u8], longest: u32) -> impl Iterator<Item = Vec<u8>> + '_ {
+    let count = symbols.len();
+    let row = move |length: u32, number: usize| {
+        let digits = (0..length).map(|place| number / count.pow(place) % count);
+        digits.map(|digit| symbols[digit]).collect()
+    };
+    (0..=longest).flat_map(move |length| {
+        let numbers = 0..count.pow(length);
+        numbers.map(move |number| row(length, number))
+    })
 }
 
 /// A buffer to lend, full of bytes that tell where something was written.

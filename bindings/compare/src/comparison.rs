@@ -21,12 +21,14 @@ pub struct Comparison {
     typed: [u64; FUNCTIONS.len()],
     /// How often each function gave each refusal.
     refusals: [[u64; REFUSALS]; FUNCTIONS.len()],
-    /// How often each report, each rule, each end of a reader and of a listing, and each action came.
+    /// How often each report, each rule, each end of a reader and of a listing, and each action came; how often a
+    /// field's value was absent and in use.
     reports: [u64; 7],
     rules: [u64; 9],
     ends: [u64; 3],
     listings: [u64; 3],
     actions: [u64; 4],
+    fields: [u64; 2],
     /// How often a look showed each field and buffer, of a reader that is open and that is finished.
     looks: [[[u64; 3]; 4]; 2],
     /// How often it showed a value with each buffer of which nothing had come, and something.
@@ -113,6 +115,7 @@ impl Comparison {
                 Call::Judge { .. } => self.rules[answer[1] as usize] += 1,
                 Call::ReaderClose { .. } => self.ends[answer[1] as usize] += 1,
                 Call::List { .. } => self.listings[answer[3] as usize] += 1,
+                Call::FieldInUse { .. } => self.fields[answer[1] as usize] += 1,
                 Call::Translate { .. } => self.actions[answer[1] as usize] += 1,
                 _ => {}
             }
@@ -203,10 +206,11 @@ impl Comparison {
         self.typed.iter().sum()
     }
 
-    /// What should have come and has not: an answer that is not a refusal, each refusal of each function, a typed call of
-    /// each, each report, each rule, each end of a reader and of a listing, each action, each field and buffer of a look,
-    /// each outcome of closing a side and of looking for an entry, words that are all zero, good and bad tables with bits
-    /// that mean nothing, each reason for which an address capsule is malformed.
+    /// What should have come and has not: an answer that is not a refusal, each refusal of each function, a typed call
+    /// of each, each report, each rule, each end of a reader and of a listing, each action, a field value that is absent
+    /// and one that is in use, each field and buffer of a look, each outcome of closing a side and of looking for an
+    /// entry, words that are all zero, good and bad tables with bits that mean nothing, each reason for which an address
+    /// capsule is malformed.
     pub fn missing(&self) -> Vec<String> {
         let mut missing = Vec::new();
         for (row, (name, _, refusals)) in self.refusals.iter().zip(FUNCTIONS) {
@@ -242,6 +246,7 @@ impl Comparison {
             ("end", 1, &self.ends),
             ("end of a listing", 1, &self.listings),
             ("action", 0, &self.actions),
+            ("field value: in use", 0, &self.fields),
             ("words of zero: call", 0, &self.zeros),
             ("value that is not stored: outcome", 0, &self.values[0]),
             ("value in the gathering buffer: outcome", 0, &self.values[1]),

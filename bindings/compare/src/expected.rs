@@ -328,7 +328,10 @@ pub fn answer(call: &mut Call, kept: &mut Kept) -> Answer {
             let status = (*response != 0).then_some(known(*status));
             flag(http::field_counts(status))
         }
-        Call::FieldInUse { value } => flag(http::field_in_use(&value.0)),
+        Call::FieldInUse { value } => match http::field_in_use(&value.0) {
+            Ok(in_use) => fields([0, u64::from(in_use)]),
+            Err(refusal) => refused(refusal),
+        },
         Call::Translate { error, version } => match http::translate(*error, *version) {
             Ok(Action::None) => fields([]),
             Ok(Action::Close { code }) => fields([0, 1, code]),

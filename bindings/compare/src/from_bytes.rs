@@ -58,13 +58,14 @@ impl Choices<'_> {
 pub fn compare_bytes(bytes: &[u8]) -> Result<(), Box<Difference>> {
     let mut choices = Choices(bytes);
     let mut comparison = Comparison::default();
-    match choices.byte() % 7 {
+    match choices.byte() % 8 {
         0 => reader(&mut choices, &mut comparison, true),
         1 => reader(&mut choices, &mut comparison, false),
         2 => table(&mut choices, &mut comparison),
         3 => datagrams(&mut choices, &mut comparison),
         4 => address_value(&mut choices, &mut comparison),
         5 => address_writers(&mut choices, &mut comparison),
+        6 => field_values(&mut choices, &mut comparison),
         _ => rest(&mut choices, &mut comparison),
     }
 }
@@ -305,7 +306,17 @@ fn address_writers(
     Ok(())
 }
 
-/// Varints, a listing, and what HTTP needs.
+/// A value of the Capsule-Protocol field, a part of one after a Boolean, and one after the key of a parameter.
+fn field_values(choices: &mut Choices, comparison: &mut Comparison) -> Result<(), Box<Difference>> {
+    let bytes = choices.bytes(usize::MAX);
+    for front in [&b""[..], b"?1", b"?1;a="] {
+        let value = Bytes([front, &bytes].concat());
+        comparison.make(Call::FieldInUse { value })?;
+    }
+    Ok(())
+}
+
+/// Varints, a listing, settings, messages and errors.
 fn rest(choices: &mut Choices, comparison: &mut Comparison) -> Result<(), Box<Difference>> {
     let (number, place) = (choices.number(), choices.number());
     let room = usize::from(choices.byte() % 32);
@@ -333,9 +344,6 @@ fn rest(choices: &mut Choices, comparison: &mut Comparison) -> Result<(), Box<Di
     let bytes = Bytes(choices.bytes(usize::MAX));
     comparison.make(Call::ReadVarint {
         bytes: bytes.clone(),
-    })?;
-    comparison.make(Call::FieldInUse {
-        value: bytes.clone(),
     })?;
     comparison.make(Call::List { bytes })?;
     Ok(())

@@ -230,7 +230,9 @@ pub fn answer(call: &mut Call) -> Option<Answer> {
                 status: u16::try_from(*status).ok()?,
             },
         })),
-        Call::FieldInUse { value } => flag(http::field_in_use(&value.0)),
+        Call::FieldInUse { value } => whole(http::field_in_use(&value.0), |in_use| {
+            fields([0, u64::from(in_use)])
+        }),
         Call::Translate { error, version } => {
             let error = typed_error(*error)?;
             let version = match *version {
@@ -269,6 +271,7 @@ fn refusal_number(refusal: Refusal) -> u64 {
         Refusal::BufferTooLong => 16,
         Refusal::UnknownErrorOrVersion => 17,
         Refusal::AddressesTooShort => 18,
+        Refusal::FieldTooLong => 19,
         Refusal::MalformedToWrite => 26,
         other => panic!("there is no refusal {other:?}"),
     }

@@ -188,7 +188,10 @@ pub fn answer(call: &mut Call) -> Answer {
             fields: [a, b, c],
         } => one(raw::response_malformed(*status, *a, *b, *c)),
         Call::FieldCounts { response, status } => one(raw::field_counts(*response, *status)),
-        Call::FieldInUse { value } => one(raw::field_in_use(&value.0)),
+        Call::FieldInUse { value } => {
+            let field = raw::field_in_use(&value.0);
+            fields([field.refusal, field.in_use])
+        }
         Call::Translate { error, version } => {
             let translation = raw::translate(*error, *version);
             fields([translation.refusal, translation.action, translation.code])

@@ -1,6 +1,7 @@
 //! Settings, messages, the Capsule-Protocol field, and what errors become: RFC 9297 sections 2.1.1, 3.2, 3.4 and 3.3,
-//! with the codes of RFC 9113 and RFC 9114.
+//! with the codes of RFC 9113 and RFC 9114. The field's value is parsed in `structured_field.rs`.
 
+use crate::structured_field::{parse_item_field, BareItem};
 use crate::Refusal;
 
 /// An error that a peer has made.
@@ -122,10 +123,15 @@ pub fn field_counts(status: Option<u64>) -> bool {
     }
 }
 
-/// Whether the value of the Capsule-Protocol field says that capsules are in use.
-pub fn field_in_use(value: &[u8]) -> bool {
-    let text: String = value.iter().map(|&byte| char::from(byte)).collect();
-    text.trim_matches(' ') == "?1"
+/// The longest value of the Capsule-Protocol field that is read.
+pub const LONGEST_FIELD_VALUE: usize = 1_024;
+
+/// Whether the value of the Capsule-Protocol field says that capsules are in use: an Item that is the Boolean true.
+pub fn field_in_use(value: &[u8]) -> Result<bool, Refusal> {
+    if value.len() > LONGEST_FIELD_VALUE {
+        return Err(Refusal::FieldTooLong);
+    }
+    Ok(parse_item_field(value) == Some(BareItem::Boolean(true)))
 }
 
 #[cfg(test)]
@@ -168,7 +174,7 @@ mod tests {
     }
 
     #[test]
-    fn messages_and_field() {
+    fn messages() {
         let none = Fields {
             content_length: false,
             content_type: false,
@@ -188,20 +194,86 @@ mod tests {
         assert!(!request_malformed(none));
         assert!(field_counts(None) && field_counts(Some(101)) && field_counts(Some(299)));
         assert!(!field_counts(Some(100)) && !field_counts(Some(300)) && !field_counts(Some(0)));
-        for value in [&b"?1"[..], b" ?1", b"?1   ", b"   ?1 "] {
-            assert!(field_in_use(value));
+    }
+
+    #[test]
+    fn field_values() {
+        let digits = |count, point: &str| format!("?1;v={}{point}", "1".repeat(count));
+        let zeros = |count| format!("?1;v={}", "0".repeat(count));
+        for value in [
+            "?1",
+            " ?1",
+            "?1   ",
+            "?1;v=2",
+            "?1;   v",
+            " ?1;v=1; w=2 ",
+            "?1;*a.b-c_d*9",
+            "?1;a=1;a=\"x\"",
+            "?1;v=-0",
+            &digits(15, ""),
+            &digits(12, ".999"),
+            r#"?1;v="\\""#,
+            "?1;v=::",
+            "?1;v=:=:",
+            r#"?1;a=?0;b=:Zg:;c="x\"";d=*t;e=-1.5"#,
+        ] {
+            assert_eq!(field_in_use(value.as_bytes()), Ok(true), "{value:?}");
         }
         for value in [
-            &b""[..],
-            b"  ",
-            b"?0",
-            b"?1\t",
-            b"? 1",
-            b"?1;a",
-            b"?11",
-            b"\xa0?1",
+            "",
+            "  ",
+            "?0",
+            "?1 ;v",
+            "?1;",
+            "?1;v =1",
+            "?1;v=",
+            "?1;V=1",
+            &digits(16, ""),
+            &zeros(16),
+            &digits(13, ".9"),
+            "?1;v=1.9999",
+            "?1;v=1.",
+            r#"?1;v="\a""#,
+            "?1;v=:Zg",
+            "?1;v=:-_:",
+            "?1,?1",
+            "?1, ?1",
+            "?1;v=(1)",
+            "?10",
+            "?1\t",
+            "\t?1",
+            "1",
+            "(?1)",
+            "?1;v=@1",
+            "?1;v=%\"x\"",
+            "\u{e9}",
+            "?1;v=\"\u{e9}\"",
         ] {
-            assert!(!field_in_use(value));
+            assert_eq!(field_in_use(value.as_bytes()), Ok(false), "{value:?}");
         }
+        for byte in 0x80..=0xff {
+            assert_eq!(field_in_use(&[b'?', b'1', byte]), Ok(false));
+        }
+    }
+
+    #[test]
+    fn field_lengths() {
+        for (value, spaces, expected) in [
+            ("?1", 1_022, Ok(true)),
+            ("?1", 1_023, Err(Refusal::FieldTooLong)),
+            ("?0", 1_022, Ok(false)),
+            ("?0", 1_023, Err(Refusal::FieldTooLong)),
+            ("", 1_024, Ok(false)),
+            ("", 1_025, Err(Refusal::FieldTooLong)),
+        ] {
+            let value = format!("{value}{}", " ".repeat(spaces));
+            assert_eq!(field_in_use(value.as_bytes()), expected);
+        }
+        let parameters = format!("?1{}", ";a".repeat(511));
+        assert_eq!(field_in_use(parameters.as_bytes()), Ok(true));
+        let longer = format!("{parameters}b");
+        let refused = Err(Refusal::FieldTooLong);
+        assert_eq!(field_in_use(longer.as_bytes()), refused);
+        assert_eq!(field_in_use(&[0xff; 1_025]), refused);
     }
 }

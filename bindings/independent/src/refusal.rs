@@ -21,6 +21,7 @@ pub enum Refusal {
     BufferTooLong = 16,
     UnknownErrorOrVersion = 17,
     AddressBufferTooShort = 18,
+    FieldTooLong = 19,
     MalformedToWrite = 26,
 }
 

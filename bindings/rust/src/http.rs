@@ -11,15 +11,16 @@
 //! assert!(http::malformed(Message::Response { status: 204 }, Fields::default()));
 //!
 //! assert!(http::field_counts(Message::Response { status: 101 }));
-//! assert!(http::field_in_use(b" ?1 "));
+//! assert!(http::field_in_use(b"?1;v=2")?);
 //!
 //! assert_eq!(Error::Truncated.on(Version::Http3), Action::StreamError { code: 0x010e });
 //! assert_eq!(Error::ShortFrame.on(Version::Http2), Action::None);
+//! # Ok::<(), maruzhenu::Refusal>(())
 //! ```
 
 use core::fmt;
 
-use crate::raw;
+use crate::{raw, Refusal};
 
 /// An error that a peer has made, as the archive answers it.
 #[derive(Clone, Copy, Debug, PartialEq, Eq, PartialOrd, Ord, Hash)]
@@ -209,8 +210,36 @@ pub fn field_counts(message: Message) -> bool {
     counts != 0
 }
 
+/// The longest value of the Capsule-Protocol field that is read, in bytes.
+pub const LONGEST_FIELD_VALUE: usize = 1_024;
+
 /// Whether the value of the Capsule-Protocol field says that the Capsule Protocol is in use.
-#[must_use]
-pub fn field_in_use(value: &[u8]) -> bool {
-    raw::field_in_use(value) != 0
+///
+/// The value is read as an Item of Structured Field Values (RFC 8941). It says so exactly if it is the Boolean true,
+/// `?1`, with any well-formed parameters, which are read and ignored; spaces may stand at both ends. Everything else
+/// means that the field is absent: an empty value, `?0`, an Item of another type, a list, an inner list, any syntax
+/// error. In a byte sequence only the alphabet is checked.
+///
+/// The value is the field's value without its name. Several lines of the field have to be joined first, in order and
+/// with `", "` between them.
+///
+/// ```
+/// use maruzhenu::{http, Refusal};
+///
+/// assert!(http::field_in_use(b" ?1 ")?);
+/// assert!(http::field_in_use(b"?1;v=2; from=\"a, b\"")?);
+/// assert!(!http::field_in_use(b"?0")?);
+/// assert!(!http::field_in_use(b"?1 ;v=2")?);
+/// assert!(!http::field_in_use(b"?1, ?1")?);
+/// let long = [b' '; http::LONGEST_FIELD_VALUE + 1];
+/// assert_eq!(http::field_in_use(&long), Err(Refusal::FieldTooLong));
+/// # Ok::<(), Refusal>(())
+/// ```
+///
+/// # Errors
+/// [`Refusal::FieldTooLong`], before anything is read.
+pub fn field_in_use(value: &[u8]) -> Result<bool, Refusal> {
+    let field = raw::field_in_use(value);
+    Refusal::check(field.refusal)?;
+    Ok(field.in_use != 0)
 }

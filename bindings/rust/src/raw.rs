@@ -25,9 +25,9 @@ use core::mem::size_of_val;
 use core::slice;
 
 pub use answers::{
-    Address, AddressFound, Closed, Fed, Found, FrameTerms, Judged, Limits, Listing, Look, Opened,
-    Opening, Quarter, Reader, Route, RouteFound, SideClosed, Stream, StreamId, Translation, Varint,
-    Written,
+    Address, AddressFound, Closed, Fed, Field, Found, FrameTerms, Judged, Limits, Listing, Look,
+    Opened, Opening, Quarter, Reader, Route, RouteFound, SideClosed, Stream, StreamId, Translation,
+    Varint, Written,
 };
 
 mod archive {
@@ -155,7 +155,7 @@ mod archive {
             transfer_encoding: u64,
         ) -> u64;
         pub fn mrz_field_counts(response: u64, status: u64) -> u64;
-        pub fn mrz_field_in_use(value: *const u8, value_len: usize) -> u64;
+        pub fn mrz_field_in_use(value: *const u8, value_len: usize) -> Field;
         pub fn mrz_translate(error: u64, version: u64) -> Translation;
     }
 }
@@ -447,10 +447,10 @@ pub fn field_counts(response: u64, status: u64) -> u64 {
     unsafe { archive::mrz_field_counts(response, status) }
 }
 
-/// Whether the value of the Capsule-Protocol field says "in use", 0 or 1.
+/// Reads the value of the Capsule-Protocol field.
 #[inline]
 #[must_use]
-pub fn field_in_use(value: &[u8]) -> u64 {
+pub fn field_in_use(value: &[u8]) -> Field {
     unsafe { archive::mrz_field_in_use(value.as_ptr(), value.len()) }
 }
 

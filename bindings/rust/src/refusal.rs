@@ -52,13 +52,15 @@ pub enum Refusal {
     UnknownErrorOrVersion = 17,
     /// The address buffer of an endpoint that takes address capsules is shorter than 1,024 bytes.
     AddressesTooShort = 18,
+    /// The value of the Capsule-Protocol field is longer than 1,024 bytes.
+    FieldTooLong = 19,
     /// Entries whose value would be malformed to a reader.
     MalformedToWrite = 26,
 }
 
 impl Refusal {
     /// All refusals, by their numbers.
-    pub const ALL: [Refusal; 19] = [
+    pub const ALL: [Refusal; 20] = [
         Refusal::UnmakeableState,
         Refusal::Finished,
         Refusal::LimitTooLarge,
@@ -77,6 +79,7 @@ impl Refusal {
         Refusal::BufferTooLong,
         Refusal::UnknownErrorOrVersion,
         Refusal::AddressesTooShort,
+        Refusal::FieldTooLong,
         Refusal::MalformedToWrite,
     ];
 
@@ -116,6 +119,7 @@ impl Refusal {
             Refusal::BufferTooLong => "buffer too long",
             Refusal::UnknownErrorOrVersion => "unknown error or version",
             Refusal::AddressesTooShort => "addresses too short",
+            Refusal::FieldTooLong => "field too long",
             Refusal::MalformedToWrite => "malformed to write",
         }
     }
@@ -151,6 +155,7 @@ impl fmt::Display for Refusal {
             Refusal::BufferTooLong => "the buffer to list is longer than 4,096 bytes",
             Refusal::UnknownErrorOrVersion => "the error or the HTTP version is unknown",
             Refusal::AddressesTooShort => "the address buffer is shorter than 1,024 bytes",
+            Refusal::FieldTooLong => "the field's value is longer than 1,024 bytes",
             Refusal::MalformedToWrite => "the entries make a malformed capsule",
         })
     }

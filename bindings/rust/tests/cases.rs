@@ -500,6 +500,25 @@ fn numbers_listings_and_http() {
     assert!(http::malformed(response(204), none));
     assert!(http::field_counts(request) && http::field_counts(response(101)));
     assert!(!http::field_counts(response(300)));
+    for (value, in_use) in [
+        (&b"?1"[..], true),
+        (b" ?1;v=1; w=2 ", true),
+        (br#"?1;a=?0;b=:Zg:;c="x\"";d=*t;e=-1.5"#, true),
+        (b"", false),
+        (b"?0", false),
+        (b"?1;v=", false),
+        (b"?1,?1", false),
+        (b"?1;v=(1)", false),
+        (b"?1\xff", false),
+    ] {
+        assert_eq!(http::field_in_use(value), Ok(in_use), "{value:?}");
+    }
+    let mut value = [b' '; http::LONGEST_FIELD_VALUE + 1];
+    value[..2].copy_from_slice(b"?1");
+    let refused = http::field_in_use(&value);
+    assert_eq!(refused, Err(Refusal::FieldTooLong));
+    assert_eq!(http::field_in_use(&value[1..]), Ok(false));
+    assert_eq!(http::field_in_use(&value[..1_024]), Ok(true));
     assert_eq!(Error::NoSemantics.on(Version::Http1_1), Action::Close);
     let action = Error::BeyondLimit.on(Version::Http3);
     assert_eq!(action, Action::ConnectionError { code: 0x0108 });
@@ -531,7 +550,7 @@ fn refusals_and_errors_are_those_of_the_header() {
         let error: &dyn std::error::Error = &refusal;
         assert!(!error.to_string().is_empty());
     }
-    for number in [0, 19, 25, 27, 257, u64::MAX] {
+    for number in [0, 20, 25, 27, 257, u64::MAX] {
         assert_eq!(Refusal::from_number(number), None);
     }
     let errors = named("MRZ_ERROR_");

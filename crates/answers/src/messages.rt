@@ -1,12 +1,20 @@
-// Messages by numbers, and what an error becomes, in numbers.
+// Messages by numbers, the Capsule-Protocol field's value and what an error becomes, in numbers.
 ghost use mathlib.Core.Path.{_≡_};
-ghost use Rattle.answers.specs.Messages.{messageOf, actionAnswer, translationAnswer};
+ghost use Rattle.answers.specs.Messages.{messageOf, fieldAnswer, actionAnswer, translationAnswer};
 use crate::numbers::refusal_number;
 use crate::numbers::status_of;
+use capsule_protocol::field::FieldValue;
 use http::messages::Message;
 use http_errors::translation::Action;
 use http_errors::translation::Translation;
 use reader_words::numbers::flag_of;
+
+// in_use: 1 or 0
+#[repr(C)]
+pub struct FieldAnswer {
+    pub refusal: u64,
+    pub in_use: u64,
+}
 
 // action: 0 none, 1 close, 2 stream error, 3 connection error
 #[repr(C)]
@@ -25,6 +33,25 @@ pub fn message_of(response: u64, status: u64) -> Message
         };
     }
     Message::Request
+}
+
+pub fn field_answer(value: FieldValue) -> FieldAnswer
+    ensures { λ r. ⌜ r ≡ fieldAnswer value ⌝ }
+{
+    match value {
+        FieldValue::Refused(why) => FieldAnswer {
+            refusal: refusal_number(why),
+            in_use: 0,
+        },
+        FieldValue::InUse => FieldAnswer {
+            refusal: 0,
+            in_use: 1,
+        },
+        FieldValue::Absent => FieldAnswer {
+            refusal: 0,
+            in_use: 0,
+        },
+    }
 }
 
 pub fn translation_answer(translation: Translation) -> TranslationAnswer

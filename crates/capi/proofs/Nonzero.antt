@@ -1,6 +1,6 @@
 -- No refusal has number 0 (specs/Claims.antt): no call's list of refusals (crate refusal_orders) has it. Assumes nothing.
 use Rattle.walks.proofs.Words.{ℕ, suc, List, Bool, true, false, cond, _&&_, not, [], _∷_, _≡_, refl, ap, _∙_, inl, inr, length, leb, eqb}
-use Rattle.capi.proofs.Terms.{Refusal, refusal, Order, First, Refuses, Writing, refuses, writeAt, QuarterOf, parted, allOf, wellFormed, entryBytes, valueBytes, entrySize, isWhole, entriesIn, idFits, routeAdvertisement, writeOf, writeValue, writeAddresses, zero-one, varint-writing, reader-opening, feeding, closing, looking, listing, translating, stream-opening, side-closing, stream-finding, judging, datagram-writing, datagram-header-writing, capsule-writing, frame-writing, frame-header-writing, address-writing, quarterAnswer, Numbered, WritingNumbered, NumberedRefusals}
+use Rattle.capi.proofs.Terms.{Refusal, refusal, Order, First, Refuses, Writing, refuses, writeAt, QuarterOf, parted, allOf, wellFormed, entryBytes, valueBytes, entrySize, isWhole, entriesIn, idFits, routeAdvertisement, writeOf, writeValue, writeAddresses, zero-one, varint-writing, reader-opening, feeding, closing, looking, listing, translating, field-reading, stream-opening, side-closing, stream-finding, judging, datagram-writing, datagram-header-writing, capsule-writing, frame-writing, frame-header-writing, address-writing, quarterAnswer, Numbered, WritingNumbered, NumberedRefusals}
 
 abbrev noZero : Order → Bool
 noZero [] = true
@@ -48,5 +48,6 @@ numbered-refusals = record {
   writes-datagram-header = λ n out place. numbered _ (datagram-header-writing n out place) refl;
   writes-addresses = addresses;
   writes-routes = λ row out place. numbered _ (address-writing routeAdvertisement row out place) refl;
+  reads-field = λ value. numbered _ (field-reading value) refl;
   translates = λ error version. numbered _ (translating error version) refl;
 }

@@ -9,9 +9,9 @@ pub use Rattle.addresses.proofs.{Reading.entry-shrinks, Reading.range-shrinks}
 pub use Rattle.addresses.specs.{Addresses.Step, Addresses.done, Addresses.malformed, Addresses.route}
 unfoldable pub use Rattle.addresses.specs.{Addresses.addressAt, Addresses.ahead, Addresses.allOf, Addresses.areGood, Addresses.clearBeyond, Addresses.entries, Addresses.entriesBy, Addresses.entryAt, Addresses.goodEntry, Addresses.goodRequests, Addresses.goodValue, Addresses.identified, Addresses.isAddressType, Addresses.longestAddressValue, Addresses.onwards, Addresses.rangeAt, Addresses.wellFormed, Addresses.widthOf, Encoding.entryBytes, Encoding.rangeBytes, Encoding.valueBytes}
 pub use Rattle.answers.specs.{AddressCapsules.cursor, declared.varint.WrittenAnswer.WrittenAnswer}
-unfoldable pub use Rattle.answers.specs.{AddressCapsules.addressFound, AddressCapsules.foundNumber, AddressCapsules.routeFound, Identifiers.quarterAnswer, Identifiers.streamAnswer, Messages.actionAnswer, Messages.messageOf, Messages.translationAnswer, Numbers.endNumber, Numbers.errorNumber, Numbers.sideOf, Numbers.statusOf, OneShot.endingNumber, OneShot.listingAnswer, Varint.varintAnswer, Varint.writtenAnswer}
+unfoldable pub use Rattle.answers.specs.{AddressCapsules.addressFound, AddressCapsules.foundNumber, AddressCapsules.routeFound, Identifiers.quarterAnswer, Identifiers.streamAnswer, Messages.actionAnswer, Messages.fieldAnswer, Messages.messageOf, Messages.translationAnswer, Numbers.endNumber, Numbers.errorNumber, Numbers.sideOf, Numbers.statusOf, OneShot.endingNumber, OneShot.listingAnswer, Varint.varintAnswer, Varint.writtenAnswer}
 pub use Rattle.capi.specs.{Cases.Cases, Cases.SendingCases, Claims.CloseKept, Claims.Demand3InWords, Claims.EntriesGoOn, Claims.FeedKept, Claims.GoesOn, Claims.LookKept, Claims.MalformedError, Claims.NotZero, Claims.Numbered, Claims.NumberedRefusals, Claims.NumbersRead, Claims.OpenKept, Claims.PayloadPart, Claims.ReaderKept, Claims.RefusalLeaves, Claims.RefusedReaderLeaves, Claims.RefusedTableLeaves, Claims.RefusedWriteLeaves, Claims.TableKept, Claims.TableStaysGood, Claims.Throughout, Claims.WritingNumbered, Claims.WrittenKept, Claims.ZeroWordsRefused, Claims.closedIn, Claims.fedIn, Table.closed, Table.opened, Table.streamId, Told.AnswersTold, Told.ElseZero, Told.ErrorSo, Told.VarintSo, Varint.wrote}
-unfoldable pub use Rattle.capi.specs.{Claims.numbersOf, Claims.runNumbers, Claims.runWords, Claims.wordsCall, Sight.lookWords, Table.closeTable, Table.openTable, Told.addressIn, Told.bitIn, Told.endedIn, Told.errorIn, Told.foundIn, Told.listedIn, Told.lookedIn, Told.openedIn, Told.rangeIn, Told.refusedOr, Told.ruleIn, Told.sideClosedIn, Told.standingIn, Told.streamIn, Told.translationIn, Told.varintIn, Told.writtenIn, Varint.wroteBy}
+unfoldable pub use Rattle.capi.specs.{Claims.numbersOf, Claims.runNumbers, Claims.runWords, Claims.wordsCall, Sight.lookWords, Table.closeTable, Table.openTable, Told.addressIn, Told.bitIn, Told.endedIn, Told.errorIn, Told.fieldIn, Told.foundIn, Told.listedIn, Told.lookedIn, Told.openedIn, Told.rangeIn, Told.refusedOr, Told.ruleIn, Told.sideClosedIn, Told.standingIn, Told.streamIn, Told.translationIn, Told.varintIn, Told.writtenIn, Varint.wroteBy}
 pub use Rattle.capsule.specs.{Calls.Lent, Calls.Reply, Calls.close, Calls.feed, Reader.fresh, Reader.opening, declared.reader.CloseAnswer.CloseAnswer, declared.reader.FeedAnswer.FeedAnswer, declared.reader.Opened.Opened, declared.reader.Reader.Reader}
 unfoldable pub use Rattle.capsule.specs.{Book.bookCall, Book.newBook, Book.onlyIf, Calls.finishesIn, Calls.run, Reader.closeOf, Reader.endAt, Reader.fedBy, Reader.feedBy, Reader.feedOf, Reader.isMakeable, Reader.isOpening, Reader.judgedIn, Reader.openOf, Reader.readerCall, Reader.stored, Reader.takeOf, Reader.verdictOf, State.ofBook}
 pub use Rattle.capsule_laws.proofs.{Arising.refused-close-unchanged, Lists.demand-3, Lists.fresh-book, Lists.fresh-open, Lists.made-book, Lists.open-fresh, Makeable.calls-makeable, Makeable.refused-unchanged, Makeable.stays-makeable}
@@ -19,6 +19,7 @@ pub use Rattle.capsule_laws.specs.{Claims.HandedOn}
 pub use Rattle.datagram.proofs.{Framing.framed, Outgoing.sent}
 pub use Rattle.http.specs.{declared.errors.ErrorOf.ErrorOf}
 unfoldable pub use Rattle.http.specs.{Errors.number}
+pub use Rattle.capsule_protocol.specs.{declared.field.FieldValue.FieldValue}
 pub use Rattle.http_errors.specs.{declared.translation.Translation.Translation}
 unfoldable pub use Rattle.http_errors.specs.{Ties.closeError, Ties.judgedError, Ties.reportError}
 pub use Rattle.judging.specs.{Judging.Judges, declared.judge.Judged.Judged}
@@ -38,7 +39,7 @@ unfoldable pub use Rattle.reader_calls.specs.{Reader.closeLoaded, Reader.closeW
 pub use Rattle.reader_words.proofs.{StoredForm.stored-read}
 pub use Rattle.reader_words.specs.{Claims.HaveIsByte, declared.words.Loaded.Loaded}
 unfoldable pub use Rattle.reader_words.specs.{Numbers.bitOf, Numbers.flagOf, Numbers.roleOf, Words.addressesIn, Words.draftIn, Words.phaseIn, Words.phaseWords, Words.readerIn, Words.readerMark, Words.roleIn, Words.roleWord, Words.settingsNumber, Words.withPhase, Words.wordsOf}
-pub use Rattle.refusal_orders.proofs.{Reading.closing, Reading.feeding, Reading.listing, Reading.looking, Reading.reader-opening, Reading.translating, Reading.varint-writing, Tables.judging, Tables.side-closing, Tables.stream-finding, Tables.stream-opening, Writers.address-writing, Writers.capsule-writing, Writers.datagram-header-writing, Writers.datagram-writing, Writers.frame-header-writing, Writers.frame-writing}
+pub use Rattle.refusal_orders.proofs.{Reading.closing, Reading.feeding, Reading.field-reading, Reading.listing, Reading.looking, Reading.reader-opening, Reading.translating, Reading.varint-writing, Tables.judging, Tables.side-closing, Tables.stream-finding, Tables.stream-opening, Writers.address-writing, Writers.capsule-writing, Writers.datagram-header-writing, Writers.datagram-writing, Writers.frame-header-writing, Writers.frame-writing}
 pub use Rattle.refusals.specs.{First.First, First.Order, First.Refuses, Numbers.malformedToWrite, Numbers.numberTooLarge, Numbers.refusal, Numbers.unmakeableState, declared.Refusal.Refusal}
 pub use Rattle.sending.proofs.{Leaving.writers-leave}
 unfoldable pub use Rattle.send_rights.specs.{Rights.agreed, Rights.sendingEntry, Rights.sendingOf, Rights.sendingRecord}

@@ -1,7 +1,7 @@
 -- The numbers decide the answer, and what an answer does not have is 0 (specs/Told.antt). Assumes nothing.
 use Prim.{tt}
 use Rattle.walks.proofs.Words.{ℕ, _-_, _/_, _^_, _<_, Bool, true, false, cond, List, [], _∷_, _≡_, _∙_, refl, ap, arith, length, getD, leb, ltb, eqb, lt-ltb, ne-eqb, pow-pos}
-use Rattle.capi.proofs.Terms.{Refusal, unmakeableState, Quarter, QuarterOf, StreamOf, Varint, Incomplete, Whole, Written, sizeOf, readVarint, Delivered, Dropped, Skipped, Passed, AddressDelivered, Malformed, Ended, Nothing, Capsule, FeedAnswer, CloseAnswer, lengthOf, StreamOpened, SideClosed, Standing, Judged, ruleOf, Neither, Gathering, Addresses, Place, Looked, lookOf, Loaded, stored-read, lookWords, Listed, asClosed, ErrorOf, Translation, number, closeError, reportError, judgedError, Found, NextAddress, NextRange, LookAnswer, FedAnswer, JudgedAnswer, bitOf, errorNumber, endNumber, varintAnswer, writtenAnswer, reportNumber, typeOf, fedReport, fedTook, fedAnswer, closeRefusal, openedAt, openedAnswer, foundAnswer, orZero, deliveredAnswer, judgedAnswer, bufferNumber, sightAnswer, lookedAnswer, quarterAnswer, streamAnswer, endingNumber, listingAnswer, foundNumber, addressFound, routeFound, actionAnswer, translationAnswer, NotZero, Numbered, MalformedError, LookKept, refusedOr, bitIn, errorIn, varintIn, writtenIn, endedIn, lookedIn, streamIn, listedIn, openedIn, sideClosedIn, standingIn, ruleIn, translationIn, foundIn, addressIn, rangeIn, VarintSo, ErrorSo, AnswersTold, ElseZero}
+use Rattle.capi.proofs.Terms.{Refusal, unmakeableState, Quarter, QuarterOf, StreamOf, Varint, Incomplete, Whole, Written, sizeOf, readVarint, Delivered, Dropped, Skipped, Passed, AddressDelivered, Malformed, Ended, Nothing, Capsule, FeedAnswer, CloseAnswer, lengthOf, StreamOpened, SideClosed, Standing, Judged, ruleOf, Neither, Gathering, Addresses, Place, Looked, lookOf, Loaded, stored-read, lookWords, Listed, asClosed, ErrorOf, FieldValue, Translation, number, closeError, reportError, judgedError, Found, NextAddress, NextRange, LookAnswer, FedAnswer, JudgedAnswer, bitOf, errorNumber, endNumber, varintAnswer, writtenAnswer, reportNumber, typeOf, fedReport, fedTook, fedAnswer, closeRefusal, openedAt, openedAnswer, foundAnswer, orZero, deliveredAnswer, judgedAnswer, bufferNumber, sightAnswer, lookedAnswer, quarterAnswer, streamAnswer, endingNumber, listingAnswer, foundNumber, addressFound, routeFound, fieldAnswer, actionAnswer, translationAnswer, NotZero, Numbered, MalformedError, LookKept, refusedOr, bitIn, errorIn, varintIn, writtenIn, endedIn, lookedIn, streamIn, listedIn, openedIn, sideClosedIn, standingIn, ruleIn, fieldIn, translationIn, foundIn, addressIn, rangeIn, VarintSo, ErrorSo, AnswersTold, ElseZero}
 use Rattle.wire.specs.declared.units.QuarterOf.the-variants as quarterAs
 use Rattle.wire.specs.declared.units.StreamOf.the-variants as streamAs
 use Rattle.wire.specs.declared.varint.Written.the-variants as writtenAs
@@ -18,6 +18,7 @@ use Rattle.reader_words.specs.declared.words.Loaded.the-variants as loaded
 use Rattle.one_shot_listing.specs.declared.Ending.the-variants as ending
 use Rattle.one_shot_listing.specs.declared.Listed.the-variants as listed
 use Rattle.http.specs.declared.errors.ErrorOf.the-variants as errorAs
+use Rattle.capsule_protocol.specs.declared.field.FieldValue.the-variants as field
 use Rattle.http_errors.specs.declared.translation.Action.the-variants as action
 use Rattle.http_errors.specs.declared.translation.Translation.the-variants as translation
 use Rattle.address_cursor.specs.declared.Found.the-variants as found
@@ -176,6 +177,12 @@ judgement frame (judged.Delivered q i) = go (readVarint frame)
     go Incomplete = (λ n. refl, refl)
     go (Whole n size) = (λ n. refl, refl)
 
+field-value : (a : FieldValue) → Numbered field.Refused a → fieldIn (fieldAnswer a) ≡ a
+unfolding fieldIn fieldAnswer refusedOr bitIn
+field-value (field.Refused why) n = refused why field.Refused _ (n why refl)
+field-value field.InUse n = refl
+field-value field.Absent n = refl
+
 translated : (a : Translation) → let t = translationAnswer a in (Numbered translation.Refused a → translationIn t ≡ a) × (cond (ltb (t .action) 1) (t .code) 0 ≡ 0)
 unfolding translationIn translationAnswer actionAnswer refusedOr
 translated (translation.Refused why) = (λ n. refused why translation.Refused _ (n why refl), refl)
@@ -259,6 +266,7 @@ answers-told = record {
   judged-errors = λ frame a. ap (λ (x : Rest). x .0) (judgement frame a .1);
   payloads = payload;
   no-payloads = λ frame a l. let e = judgement frame a .1 in (below _ 8 _ (ap (λ (x : Rest). x .1) e) l, below _ 8 _ (ap (λ (x : Rest). x .2) e) l);
+  field-values = field-value;
   translations = λ a. translated a .0;
   addresses = address;
   reserved = λ a. refl;
@@ -266,7 +274,7 @@ answers-told = record {
 }
 
 pub else-zero : ElseZero
-unfolding writtenAnswer varintAnswer fedAnswer reader.closedAnswer endNumber lookedAnswer quarterAnswer streamAnswer listingAnswer openedAnswer table.closedAnswer foundAnswer judgedAnswer translationAnswer
+unfolding writtenAnswer varintAnswer fedAnswer reader.closedAnswer endNumber lookedAnswer quarterAnswer streamAnswer listingAnswer openedAnswer table.closedAnswer foundAnswer judgedAnswer fieldAnswer translationAnswer
 else-zero = record {
   not-written = λ why. refl;
   incomplete = refl;
@@ -283,6 +291,7 @@ else-zero = record {
   not-found = λ why. refl;
   not-named = λ frame a. let e = judgement frame a .1 in (below _ 2 _ (ap (λ (x : Rest). x .3) e), below _ 5 _ (ap (λ (x : Rest). x .4) e));
   not-judged = λ frame why. refl;
+  not-in-use = λ why. refl;
   no-code = λ a. below _ 1 _ (translated a .1);
   not-translated = λ why. refl;
 }

@@ -35,6 +35,7 @@ use Rattle.judging.specs.Judging.{quarter}
 use Rattle.one_shot_listing.specs.declared.Ending.the-variants as ending
 use Rattle.one_shot_listing.specs.declared.Listed.the-variants as listed
 use Rattle.http.specs.declared.messages.Message.the-variants.{Request, Response}
+use Rattle.capsule_protocol.specs.declared.field.FieldValue.the-variants as field
 use Rattle.http_errors.specs.declared.translation.Action.the-variants as action
 use Rattle.http_errors.specs.declared.translation.Translation.the-variants as translation
 use Rattle.address_cursor.specs.declared.Found.the-variants as found
@@ -72,7 +73,7 @@ use Rattle.stream_answers.specs.Table.{foundAnswer}
 use Rattle.capi.specs.Table.{streamId, openTable, closeTable}
 use Rattle.stream_answers.specs.Frames.{judgedAnswer}
 use Rattle.answers.specs.AddressCapsules.{foundNumber, cursor, addressFound, routeFound}
-use Rattle.answers.specs.Messages.{messageOf, translationAnswer}
+use Rattle.answers.specs.Messages.{messageOf, fieldSaid, fieldAnswer, translationAnswer}
 
 -- a table of cases: what is got, and what is expected
 abbrev Agree : {A : Type 0} → List (A × A) → Type 0
@@ -375,6 +376,8 @@ pub record Cases : Type 0 where
       ∷ judgedSo 0 8 11 4 2 3 0
       ∷ []
   pub sendings : SendingCases
+  pub field-values :
+      map fieldAnswer (field.Refused (refusal 19) ∷ field.InUse ∷ field.Absent ∷ []) ≡ fieldSaid 19 0 ∷ fieldSaid 0 1 ∷ fieldSaid 0 0 ∷ []
   pub translations :
       map translationAnswer
       (translation.Refused (refusal 17)

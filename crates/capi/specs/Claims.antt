@@ -43,6 +43,8 @@ use Rattle.look.specs.declared.Looked.the-variants as lookedAs
 use Rattle.look.specs.Looking.{lookOf}
 use Rattle.one_shot_listing.specs.declared.Listed.the-variants as listed
 use Rattle.one_shot_listing.specs.Listing.{listingOf}
+use Rattle.capsule_protocol.specs.declared.field.FieldValue.the-variants as field
+use Rattle.capsule_protocol.specs.Field.{fieldOf}
 use Rattle.http_errors.specs.declared.translation.Translation.the-variants as translation
 use Rattle.http_errors.specs.Translation.{translated}
 use Rattle.reader_words.specs.declared.words.Loaded.the-variants.{Nothing}
@@ -255,4 +257,5 @@ pub record NumberedRefusals : Type 0 where
   pub writes-datagram-header : (n : ℕ) (out : List ℕ) (place : ℕ) → WritingNumbered (putCapsuleHeader n out place)
   pub writes-addresses : (t : ℕ) (row out : List ℕ) (place : ℕ) → WritingNumbered (writeAddresses t row out place)
   pub writes-routes : (row out : List ℕ) (place : ℕ) → WritingNumbered (writeRoutes row out place)
+  pub reads-field : (value : List ℕ) → Numbered field.Refused (fieldOf value)
   pub translates : (error version : ℕ) → Numbered translation.Refused (translated error version)

@@ -46,6 +46,8 @@ use Rattle.one_shot_listing.specs.declared.Listed.{Listed}
 use Rattle.one_shot_listing.specs.declared.Listed.the-variants as listed
 use Rattle.http.specs.declared.errors.ErrorOf.{ErrorOf}
 use Rattle.http.specs.declared.errors.ErrorOf.the-variants as errorAs
+use Rattle.capsule_protocol.specs.declared.field.FieldValue.{FieldValue}
+use Rattle.capsule_protocol.specs.declared.field.FieldValue.the-variants as field
 use Rattle.http_errors.specs.declared.translation.Action.the-variants as action
 use Rattle.http_errors.specs.declared.translation.Translation.{Translation}
 use Rattle.http_errors.specs.declared.translation.Translation.the-variants as translation
@@ -66,6 +68,7 @@ use Rattle.stream_answers.specs.declared.table.OpenedAnswer.{OpenedAnswer}
 use Rattle.stream_answers.specs.declared.table.FoundAnswer.{FoundAnswer}
 use Rattle.stream_answers.specs.declared.table.SideClosedAnswer.{SideClosedAnswer}
 use Rattle.stream_answers.specs.declared.frames.JudgedAnswer.{JudgedAnswer}
+use Rattle.answers.specs.declared.messages.FieldAnswer.{FieldAnswer}
 use Rattle.answers.specs.declared.messages.TranslationAnswer.{TranslationAnswer}
 use Rattle.answers.specs.declared.address_capsules.AddressFound.{AddressFound}
 use Rattle.answers.specs.declared.address_capsules.RouteFound.{RouteFound}
@@ -84,7 +87,7 @@ use Rattle.reader_answers.specs.Sight.{lookedAnswer}
 use Rattle.answers.specs.Identifiers.{quarterAnswer, streamAnswer}
 use Rattle.answers.specs.OneShot.{listingAnswer}
 use Rattle.answers.specs.AddressCapsules.{cursor, addressFound, routeFound}
-use Rattle.answers.specs.Messages.{translationAnswer}
+use Rattle.answers.specs.Messages.{fieldAnswer, translationAnswer}
 use Rattle.capi.specs.Claims.{Numbered}
 
 -- ---- readings of answers
@@ -179,6 +182,9 @@ ruleIn rule q i =
 unfoldable pub judgedIn : JudgedAnswer → Judged
 judgedIn a = refusedOr (a .refusal) judged.Refused (ruleIn (a .rule) (quarter (a .quarter)) (a .place))
 
+unfoldable pub fieldIn : FieldAnswer → FieldValue
+fieldIn a = refusedOr (a .refusal) field.Refused (cond (bitIn (a .«in_use»)) field.InUse field.Absent)
+
 -- by the action's number
 unfoldable pub translationIn : TranslationAnswer → Translation
 translationIn a =
@@ -244,6 +250,7 @@ pub record AnswersTold : Type 0 where
       → readVarint frame ≡ Whole n size
       → let j = judgedAnswer frame (judged.Delivered q i) in (j .start ≡ size) × (j .length ≡ length frame - size)
   pub no-payloads : (frame : List ℕ) (a : Judged) → let j = judgedAnswer frame a in j .rule < 8 → (j .start ≡ 0) × (j .length ≡ 0)
+  pub field-values : (a : FieldValue) → Numbered field.Refused a → fieldIn (fieldAnswer a) ≡ a
   pub translations : (a : Translation) → Numbered translation.Refused a → translationIn (translationAnswer a) ≡ a
   pub addresses : (a : NextAddress) → addressIn (addressFound a) ≡ a
   pub reserved : (a : NextAddress) → addressFound a .address .reserved ≡ replicate 6 0
@@ -269,5 +276,6 @@ pub record ElseZero : Type 0 where
   pub not-found : (why : Refusal) → foundAnswer (standingAs.Refused why) .place ≡ 0
   pub not-named : (frame : List ℕ) (a : Judged) → let j = judgedAnswer frame a in (j .rule < 2 → j .quarter ≡ 0) × (j .rule < 5 → j .place ≡ 0)
   pub not-judged : (frame : List ℕ) (why : Refusal) → judgedAnswer frame (judged.Refused why) .rule ≡ 0
+  pub not-in-use : (why : Refusal) → fieldAnswer (field.Refused why) .«in_use» ≡ 0
   pub no-code : (a : Translation) → let t = translationAnswer a in t .action < 1 → t .code ≡ 0
   pub not-translated : (why : Refusal) → translationAnswer (translation.Refused why) .action ≡ 0

@@ -1,18 +1,20 @@
 // Settings, messages, the Capsule-Protocol field, error translation.
 ghost use mathlib.Core.Path.{_≡_};
-ghost use Rattle.http.specs.Field.{inUse};
+ghost use Rattle.capsule_protocol.specs.Field.{fieldOf};
 ghost use Rattle.http.specs.Messages.{fieldCounts, requestMalformed, responseMalformed};
 ghost use Rattle.http.specs.Settings.{receivedSetting, settingError};
 ghost use Rattle.http_errors.specs.Translation.{translated};
 ghost use Rattle.reader_words.specs.Numbers.{flagOf, bitOf};
 ghost use Rattle.answers.specs.Numbers.{statusOf, errorNumber};
-ghost use Rattle.answers.specs.Messages.{messageOf, translationAnswer};
+ghost use Rattle.answers.specs.Messages.{messageOf, fieldAnswer, translationAnswer};
+use answers::messages::FieldAnswer;
 use answers::messages::TranslationAnswer;
+use answers::messages::field_answer;
 use answers::messages::message_of;
 use answers::messages::translation_answer;
 use answers::numbers::error_number;
 use answers::numbers::status_of;
-use http::field::in_use;
+use capsule_protocol::field::read_field;
 use http::messages::request_malformed;
 use http::messages::response_malformed;
 use http::settings::received;
@@ -68,10 +70,10 @@ pub extern "C" fn mrz_field_counts(response: u64, status: u64) -> u64
 }
 
 #[no_mangle]
-pub extern "C" fn mrz_field_in_use(value: &[u8]) -> u64
-    ensures { λ r. ⌜ r ≡ bitOf (inUse (now (value .entry))) ⌝ }
+pub extern "C" fn mrz_field_in_use(value: &[u8]) -> FieldAnswer
+    ensures { λ r. ⌜ r ≡ fieldAnswer (fieldOf (now (value .entry))) ⌝ }
 {
-    bit_of(in_use(value))
+    field_answer(read_field(value))
 }
 
 #[no_mangle]

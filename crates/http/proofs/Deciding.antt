@@ -1,7 +1,6 @@
 -- Settings and messages, decided at every number. Assumes nothing.
 use Rattle.walks.proofs.Words.{_≡_, refl, ap, _↔_, _⊎_, inl, inr, ⊎-elim, Iff·trans, Iff·and, Iff·rfl, Bool, true, false, cond, _||_, _&&_, ℕ, _≤_, _<_, leb, ltb, eqb, leb-true, le-leb, ltb-true, ltb-false, lt-ltb, le-ltb, eqb-true, eq-eqb}
-use Rattle.http.proofs.Terms.{both, parted, HttpError, NoError, Is, Accepted, Bad, SettingExactly, RequestMalformedExactly, ResponseMalformedExactly, FieldCountsExactly, SettingErrorExactly, number, requestMalformed, responseMalformed, fieldCounts, receivedSetting, settingError}
-use Rattle.http.proofs.SameBytes.{zero-one}
+use Rattle.http.proofs.Terms.{both, parted, zero-one, HttpError, NoError, Is, Accepted, Bad, SettingExactly, RequestMalformedExactly, ResponseMalformedExactly, FieldCountsExactly, SettingErrorExactly, number, requestMalformed, responseMalformed, fieldCounts, receivedSetting, settingError}
 
 -- ---- tests joined
 

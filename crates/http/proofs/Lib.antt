@@ -1,6 +1,2 @@
 mod Terms
-pub mod Cases
 pub mod Deciding
-pub mod SameBytes
-pub mod Trim
-pub mod Trimming

@@ -1,16 +1,13 @@
--- What holds of the definitions, at every number, status and byte string. Each claim is a type here, and is proved in the file given under its
+-- What holds of the definitions, at every number and status. Each claim is a type here, and is proved in the file given under its
 -- name in lower case with dashes.
 use mathlib.Core.Path.{_≡_}
 use mathlib.Core.Logic.{_↔_, _⊎_}
 use Prim.Native.Nat.{ℕ, _≤_, _<_}
 use mathlib.Core.Bool.{Bool, true}
-use mathlib.Core.List.{List, _∷_, _++_}
-use lib.ListN.{replicate}
 use Rattle.http.specs.declared.errors.ErrorOf.the-variants.{Is}
 use Rattle.http.specs.declared.messages.Message.the-variants.{Request, Response}
 use Rattle.http.specs.declared.settings.Setting.{Setting}
 use Rattle.http.specs.declared.settings.Setting.the-variants.{Accepted, Bad}
-use Rattle.http.specs.Field.{inUse}
 use Rattle.http.specs.Messages.{requestMalformed, responseMalformed, fieldCounts}
 use Rattle.http.specs.Settings.{receivedSetting, settingError}
 
@@ -44,8 +41,3 @@ ResponseMalformedExactly =
 abbrev pub FieldCountsExactly : Type 0
 FieldCountsExactly =
     (fieldCounts Request ≡ true) × ((status : ℕ) → (fieldCounts (Response status) ≡ true) ↔ (status ≡ 101) ⊎ ((200 ≤ status) × (status ≤ 299)))
-
--- ---- the field's value: `?1` between spaces, 0x20 and no other byte (proofs/Trimming.antt)
-
-abbrev pub InUseExactly : Type 0
-InUseExactly = (value : List ℕ) → (inUse value ≡ true) ↔ ((i : ℕ) × (j : ℕ) × (value ≡ replicate i 0x20 ++ (0x3f ∷ 0x31 ∷ replicate j 0x20)))

@@ -1,5 +1,4 @@
 // What HTTP versions, messages and settings say about datagrams and capsules (RFC 9297).
 pub mod errors;
-pub mod field;
 pub mod messages;
 pub mod settings;

@@ -1,6 +1,7 @@
 // A line on standard output for each question and its answer.
+use capsule_protocol::field::FieldValue;
+use capsule_protocol::field::read_field;
 use http::errors::ErrorOf;
-use http::field;
 use http::messages;
 use http::messages::Message;
 use http::settings;
@@ -138,7 +139,13 @@ pub(crate) fn message(
 pub(crate) fn value(bytes: &[u8]) {
     word(b"value ");
     hex(bytes);
-    word(b": in use ");
-    flag(field::in_use(bytes));
-    word(b"\n");
+    match read_field(bytes) {
+        FieldValue::InUse => word(b": in use\n"),
+        FieldValue::Absent => word(b": absent\n"),
+        FieldValue::Refused(why) => {
+            word(b": refused ");
+            number(why.0 as u64);
+            word(b"\n");
+        }
+    }
 }

@@ -1,4 +1,4 @@
-// Prints what the crates http and http_errors answer, a line for each question.
+// Prints what the crates http, capsule_protocol and http_errors answer, a line for each question.
 mod answers;
 
 use answers::message;
@@ -74,19 +74,24 @@ fn responses_with_fields() {
 
 fn values_in_use() {
     value(b"?1");
-    value(b"?1 ");
-    value(b" ?1");
     value(b"  ?1  ");
+    value(b"?1;v=2");
+    value(b" ?1;v=1; w=2 ");
+    value(b"?1;*a.b-c_d*9");
+    value(b"?1;a=?0;b=:Zg:;c=\"x\\\"\";d=*t;e=-1.5");
 }
 
-fn other_values() {
-    value(b"?1\t");
-    value(b"\t?1");
-    value(b"? 1");
+fn absent_values() {
     value(b"");
-    value(b"  ");
     value(b"?0");
-    value(b"?1;a");
+    value(b"?1\t");
+    value(b"? 1");
+    value(b"?1 ;v");
+    value(b"?1;");
+    value(b"?1;V=1");
+    value(b"?1,?1");
+    value(b"?1;v=(1)");
+    value(b"1");
 }
 
 fn main() {
@@ -97,5 +102,5 @@ fn main() {
     responses();
     responses_with_fields();
     values_in_use();
-    other_values();
+    absent_values();
 }

@@ -1,6 +1,6 @@
--- Numbers on the wire, readers, listing and translation are refused by their lists. Assumes nothing.
+-- Numbers on the wire, readers, listing, translation and the field's value are refused by their lists. Assumes nothing.
 use Rattle.walks.proofs.Words.{ℕ, _+_, _-_, _^_, _≤_, _<_, arith, _≡_, refl, subst, Bool, true, false, cond, _↔_, List, [], _∷_, length, eqb}
-use Rattle.refusal_orders.proofs.Terms.{Refusal, refusal, unknownErrorOrVersion, Order, Refuses, Unless, unless, when-true, unless-above, only, passes, stops, goes-on, stops-when, stops-unless, largest, Writing, refuses, writeAt, writeVarint, split, longestAddressValue, Role, Endpoint, Intermediary, Phase, InType, InLength, InValue, Closed, Reader, Verdict, Accepted, Refused, optedBy, opted, Lent, outputVerdict, addressesVerdict, lentVerdict, isOpening, openOf, isMakeable, verdictOf, fedBy, takeOf, feedBy, feedOf, endAt, closeOf, zero-one, no-true, Makes, makeable-exactly, lookOf, listingOf, Translation, errors, versions, translated, nth-below, nth-past, unknown-error, unknown-version, known, VarintWriting, ReaderOpening, Feeding, Closing, Looking, Listing, Translating}
+use Rattle.refusal_orders.proofs.Terms.{Refusal, refusal, unknownErrorOrVersion, Order, Refuses, Unless, unless, when-true, unless-above, only, passes, stops, goes-on, stops-when, stops-unless, largest, Writing, refuses, writeAt, writeVarint, split, longestAddressValue, Role, Endpoint, Intermediary, Phase, InType, InLength, InValue, Closed, Reader, Verdict, Accepted, Refused, optedBy, opted, Lent, outputVerdict, addressesVerdict, lentVerdict, isOpening, openOf, isMakeable, verdictOf, fedBy, takeOf, feedBy, feedOf, endAt, closeOf, zero-one, no-true, Makes, makeable-exactly, lookOf, listingOf, Translation, errors, versions, translated, nth-below, nth-past, unknown-error, unknown-version, known, VarintWriting, ReaderOpening, Feeding, Closing, Looking, Listing, Translating, FieldReading, inUse, fieldOf}
 use Rattle.wire.specs.declared.varint.Written.the-variants as written
 use Rattle.capsule.specs.declared.reader.Opened.the-variants as opened
 use Rattle.capsule.specs.declared.reader.FeedAnswer.the-variants as fedAs
@@ -8,6 +8,7 @@ use Rattle.capsule.specs.declared.reader.CloseAnswer.the-variants as closedAs
 use Rattle.look.specs.declared.Looked.the-variants as looked
 use Rattle.one_shot_listing.specs.declared.Listed.the-variants as listed
 use Rattle.http_errors.specs.declared.translation.Translation.the-variants as translation
+use Rattle.capsule_protocol.specs.declared.field.FieldValue.the-variants as field
 use Rattle.refusal_orders.specs.Orders as order
 use Rattle.refusal_orders.proofs.Tables.{neither}
 
@@ -118,3 +119,13 @@ translating error version =
         → ((1 ≤ error) × (error ≤ 7) × (1 ≤ version) × (version ≤ 3) → ⊥)
         → Refuses (λ n. translated error version ≡ translation.Refused (refusal n)) (order.translation error version)
     unknown e h = stops h (λ n. subst (λ (x : Translation). (x ≡ translation.Refused (refusal n)) ↔ (n ≡ 17)) e (only translation.Refused (λ a b e. cc) 17 n))
+
+-- ---- the field's value
+
+pub field-reading : FieldReading
+unfolding fieldOf
+field-reading value = alone field.Refused (λ a b e. cc) (unless-above (length value) 1024) (read (inUse value))
+  where
+    read : (t : Bool) (r : Refusal) → cond t field.InUse field.Absent ≡ field.Refused r → ⊥
+    read true r e = zero-one (cc)
+    read false r e = zero-one (cc)

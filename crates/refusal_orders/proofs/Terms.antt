@@ -9,6 +9,7 @@ pub use Rattle.capsule.specs.{Calls.Lent, declared.reader.Closed.Closed, declar
 unfoldable pub use Rattle.capsule.specs.{Reader.closeOf, Reader.endAt, Reader.fedBy, Reader.feedBy, Reader.feedOf, Reader.isMakeable, Reader.isOpening, Reader.openOf, Reader.takeOf, Reader.verdictOf}
 pub use Rattle.capsule_laws.proofs.{Makeable.makeable-exactly}
 pub use Rattle.capsule_laws.specs.{Claims.Makes}
+unfoldable pub use Rattle.capsule_protocol.specs.{Field.fieldOf, Field.inUse}
 pub use Rattle.http_errors.proofs.{Lookup.known, Lookup.nth-below, Lookup.nth-past, Lookup.unknown-error, Lookup.unknown-version}
 pub use Rattle.http_errors.specs.{Translation.errors, Translation.versions, declared.translation.Translation.Translation}
 unfoldable pub use Rattle.http_errors.specs.{Translation.translated}
@@ -19,7 +20,7 @@ unfoldable pub use Rattle.one_shot_listing.specs.{Listing.listingOf}
 pub use Rattle.opening.specs.{declared.Role.Role, declared.Role.the-variants.Endpoint, declared.Role.the-variants.Intermediary, declared.Verdict.Verdict, declared.Verdict.the-variants.Accepted, declared.Verdict.the-variants.Refused}
 unfoldable pub use Rattle.opening.specs.{Kinds.opted, Kinds.optedBy, Lent.addressesVerdict, Lent.lentVerdict, Lent.outputVerdict}
 pub use Rattle.planning.specs.{declared.Phase.Phase, declared.Phase.the-variants.InLength, declared.Phase.the-variants.InType, declared.Phase.the-variants.InValue}
-pub use Rattle.refusal_orders.specs.{Claims.AddressWriting, Claims.CapsuleWriting, Claims.Closing, Claims.DatagramHeaderWriting, Claims.DatagramWriting, Claims.Feeding, Claims.FrameHeaderWriting, Claims.FrameWriting, Claims.Judging, Claims.Listing, Claims.Looking, Claims.ReaderOpening, Claims.SideClosing, Claims.StreamFinding, Claims.StreamOpening, Claims.Translating, Claims.VarintWriting, Claims.WritingRefuses, Orders.TooShort, Orders.streamNamed}
+pub use Rattle.refusal_orders.specs.{Claims.AddressWriting, Claims.CapsuleWriting, Claims.Closing, Claims.DatagramHeaderWriting, Claims.DatagramWriting, Claims.Feeding, Claims.FieldReading, Claims.FrameHeaderWriting, Claims.FrameWriting, Claims.Judging, Claims.Listing, Claims.Looking, Claims.ReaderOpening, Claims.SideClosing, Claims.StreamFinding, Claims.StreamOpening, Claims.Translating, Claims.VarintWriting, Claims.WritingRefuses, Orders.TooShort, Orders.streamNamed}
 pub use Rattle.refusals.proofs.{First.Unless, First.When, First.goes-on, First.only, First.passes, First.stops, First.stops-unless, First.stops-when, First.unless, First.unless-above, First.when-true}
 pub use Rattle.refusals.specs.{First.Order, First.Refuses, Numbers.badTable, Numbers.notARequestStream, Numbers.notInTable, Numbers.refusal, Numbers.unknownErrorOrVersion, declared.Refusal.Refusal}
 pub use Rattle.send_rights.specs.{declared.rights.Sending.Sending}

@@ -23,6 +23,8 @@ use Rattle.one_shot_listing.specs.declared.Listed.the-variants as listed
 use Rattle.one_shot_listing.specs.Listing.{listingOf}
 use Rattle.http_errors.specs.declared.translation.Translation.the-variants as translation
 use Rattle.http_errors.specs.Translation.{translated}
+use Rattle.capsule_protocol.specs.declared.field.FieldValue.the-variants as field
+use Rattle.capsule_protocol.specs.Field.{fieldOf}
 use Rattle.stream_records.specs.declared.record.Side.{Side}
 use Rattle.stream_records.specs.declared.answers.StreamOpened.the-variants as opening
 use Rattle.stream_records.specs.declared.answers.SideClosed.the-variants as closing
@@ -38,7 +40,7 @@ use Rattle.refusal_orders.specs.Orders as order
 abbrev pub WritingRefuses : Writing → Order → Type 0
 WritingRefuses w o = Refuses (λ n. w .answer ≡ written.Refused (refusal n)) o
 
--- ---- numbers on the wire, readers, listing, translation (proofs/Reading.antt)
+-- ---- numbers on the wire, readers, listing, translation, the field's value (proofs/Reading.antt)
 
 abbrev pub VarintWriting : Type 0
 VarintWriting = (n : ℕ) (out : List ℕ) (place : ℕ) → WritingRefuses (writeVarint n out place) (order.varintWriting n out place)
@@ -62,6 +64,9 @@ Listing = (s : List ℕ) → Refuses (λ n. listingOf s ≡ listed.Refused (refu
 
 abbrev pub Translating : Type 0
 Translating = (error version : ℕ) → Refuses (λ n. translated error version ≡ translation.Refused (refusal n)) (order.translation error version)
+
+abbrev pub FieldReading : Type 0
+FieldReading = (value : List ℕ) → Refuses (λ n. fieldOf value ≡ field.Refused (refusal n)) (order.fieldValue value)
 
 -- ---- the stream table (proofs/Tables.antt)
 

@@ -1,4 +1,4 @@
--- Document 01's paragraph "Order", call by call: each number and its condition, over the call's arguments. 18 and 26 are document 02's (request 4).
+-- Document 01's paragraph "Order", call by call: each number and its condition, over the call's arguments. 18 and 26 are document 02's (request 4), 19 too (request 5).
 use Prim.Native.Nat.{ℕ, suc, _+_, _-_, _/_, _%_, _^_, _≤_, _<_}
 use mathlib.Core.Path.{_≡_}
 use mathlib.Core.Bool.{true, false}
@@ -68,6 +68,11 @@ abbrev pub translation : ℕ → ℕ → Order
 translation error version =
     (17, (1 ≤ error) × (error ≤ 7) × (1 ≤ version) × (version ≤ 3) → ⊥)
     ∷ []
+
+-- ---- the Capsule-Protocol field's value: 19
+
+abbrev pub fieldValue : List ℕ → Order
+fieldValue value = (19, 1024 < length value) ∷ []
 
 -- ---- the stream table
 

@@ -1,4 +1,4 @@
--- Document 01, "Refusal numbers"; 18 and 26 are document 02's (request 4).
+-- Document 01, "Refusal numbers"; 18 and 26 are document 02's (request 4), 19 too (request 5).
 use Prim.Native.Nat.{ℕ}
 use Rattle.refusals.specs.declared.Refusal.{Refusal}
 
@@ -58,6 +58,9 @@ unknownErrorOrVersion = refusal 17
 
 abbrev pub addressesTooShort : Refusal
 addressesTooShort = refusal 18
+
+abbrev pub fieldTooLong : Refusal
+fieldTooLong = refusal 19
 
 abbrev pub malformedToWrite : Refusal
 malformedToWrite = refusal 26

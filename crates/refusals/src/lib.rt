@@ -40,5 +40,7 @@ impl Refusal {
 
     pub const ADDRESSES_TOO_SHORT: Refusal = Refusal(18);
 
+    pub const FIELD_TOO_LONG: Refusal = Refusal(19);
+
     pub const MALFORMED_TO_WRITE: Refusal = Refusal(26);
 }

@@ -9,7 +9,7 @@ use Rattle.opening.specs.declared.Report.the-variants.{Delivered, Dropped, Skip
 use Rattle.capsule.specs.declared.reader.CloseAnswer.{CloseAnswer}
 use Rattle.capsule.specs.declared.reader.CloseAnswer.the-variants.{Refused, Clean, Truncated}
 use Rattle.text_lines.specs.declared.Line.the-variants.{Written, NoRoom}
-use Rattle.text_lines.specs.Text.{text}
+use Rattle.text_bytes.specs.Text.{text}
 use Rattle.text_lines.specs.Lines.{limitLine, reportLine, endLine}
 use Rattle.text_lines.specs.Decimal.{decimal, value}
 use Rattle.text_lines.specs.Writing.{Writing, writing, writeAt}

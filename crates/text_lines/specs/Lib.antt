@@ -1,4 +1,3 @@
-pub mod Text
 pub mod Decimal
 pub mod Lines
 pub mod Writing

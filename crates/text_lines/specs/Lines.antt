@@ -5,7 +5,7 @@ use Rattle.opening.specs.declared.Report.{Report}
 use Rattle.opening.specs.declared.Report.the-variants.{Delivered, Dropped, Skipped, Passed, AddressDelivered, Malformed}
 use Rattle.capsule.specs.declared.reader.CloseAnswer.{CloseAnswer}
 use Rattle.capsule.specs.declared.reader.CloseAnswer.the-variants.{Refused, Clean, Truncated}
-use Rattle.text_lines.specs.Text.{text}
+use Rattle.text_bytes.specs.Text.{text}
 use Rattle.text_lines.specs.Decimal.{decimal}
 
 -- a word and a number

@@ -7,7 +7,7 @@ use independent::Random;
 use maruzhenu::raw::{FrameTerms, Limits, Opening, Stream};
 
 use super::addresses::{address_entry, range_entry};
-use super::Outcome;
+use super::{fields, rows, Outcome};
 use crate::call::{lent_table, Bytes};
 use crate::{Call, Comparison, Lent, LentReader};
 
@@ -19,29 +19,25 @@ pub fn exhaustive(comparison: &mut Comparison) -> Outcome {
     identifiers(comparison)?;
     tables(comparison)?;
     messages(comparison)?;
+    fields::all(comparison)?;
     prefixes(comparison)?;
     ranges(comparison)
 }
 
 /// Bytes with which fields of every size begin, small types and lengths.
 const BYTES: [u8; 8] = [0x00, 0x01, 0x02, 0x17, 0x40, 0x41, 0x80, 0xff];
-const LONGEST: u32 = 5;
 
 /// Every stream of up to five of these bytes, in each role with limits 0 and 1, and as an endpoint that takes address
 /// capsules, whole and byte by byte. An intermediary that opted in does as others do.
 fn streams(comparison: &mut Comparison) -> Outcome {
-    for length in 0..=LONGEST {
-        for number in 0..BYTES.len().pow(length) {
-            let digit = |place| number / BYTES.len().pow(place) % BYTES.len();
-            let stream: Vec<u8> = (0..length).map(|place| BYTES[digit(place)]).collect();
-            comparison.make(Call::List {
-                bytes: Bytes(stream.clone()),
-            })?;
-            let openings = [[0, 0, 0], [0, 1, 0], [1, 0, 0], [1, 1, 1], [0, 1, 1]];
-            for opening in openings {
-                read(comparison, opening, &stream, stream.len().max(1))?;
-                read(comparison, opening, &stream, 1)?;
-            }
+    for stream in rows(&BYTES, 5) {
+        comparison.make(Call::List {
+            bytes: Bytes(stream.clone()),
+        })?;
+        let openings = [[0, 0, 0], [0, 1, 0], [1, 0, 0], [1, 1, 1], [0, 1, 1]];
+        for opening in openings {
+            read(comparison, opening, &stream, stream.len().max(1))?;
+            read(comparison, opening, &stream, 1)?;
         }
     }
     Ok(())
@@ -306,8 +302,7 @@ fn table(comparison: &mut Comparison, records: &[Stream]) -> Outcome {
     Ok(())
 }
 
-/// Every status of three digits and some more with every choice of fields; small settings; errors and versions; values of
-/// up to five bytes.
+/// Every status of three digits and some more with every choice of fields; small settings; errors and versions.
 fn messages(comparison: &mut Comparison) -> Outcome {
     for choice in 0..8 {
         let fields = [choice & 1, choice >> 1 & 1, choice >> 2];
@@ -330,16 +325,6 @@ fn messages(comparison: &mut Comparison) -> Outcome {
             comparison.make(Call::Translate {
                 error: first,
                 version: second,
-            })?;
-        }
-    }
-    let symbols = [b' ', b'?', b'1', b'0', b'\t'];
-    for length in 0..=LONGEST {
-        for number in 0..symbols.len().pow(length) {
-            let digit = |place| number / symbols.len().pow(place) % symbols.len();
-            let value = (0..length).map(|place| symbols[digit(place)]).collect();
-            comparison.make(Call::FieldInUse {
-                value: Bytes(value),
             })?;
         }
     }

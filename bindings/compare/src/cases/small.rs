@@ -1,4 +1,4 @@
-//! Varints, listings, settings, messages, the Capsule-Protocol field and errors.
+//! Varints, listings, settings, messages and errors.
 
 use independent::captures::{self, number_of_any_size, push_number, Form};
 use independent::Random;
@@ -73,7 +73,7 @@ pub fn listings(random: &mut Random, comparison: &mut Comparison) -> Outcome {
     Ok(())
 }
 
-/// Settings, messages, the field's value, and every error on every version.
+/// Settings, messages, and every error on every version.
 pub fn http(random: &mut Random, comparison: &mut Comparison) -> Outcome {
     for error in 0..=8 {
         for version in 0..=4 {
@@ -101,21 +101,6 @@ pub fn http(random: &mut Random, comparison: &mut Comparison) -> Outcome {
             let response = random.one_of(&[0, 1, 1, 1, 2, u64::MAX]);
             comparison.make(Call::FieldCounts { response, status })?;
         }
-
-        let mut value = vec![b' '; random.size(0, 3)];
-        let middle: &[u8] = random.one_of(&[
-            b"?1", b"?1", b"?1", b"?0", b"?", b"1", b"? 1", b"?1\t", b"\t?1", b"?11", b"?1;a=1",
-            b"",
-        ]);
-        value.extend(middle);
-        value.resize(value.len() + random.size(0, 3), b' ');
-        if random.one_in(6) && !value.is_empty() {
-            let place = random.size(0, value.len() - 1);
-            value[place] = random.number() as u8;
-        }
-        comparison.make(Call::FieldInUse {
-            value: Bytes(value),
-        })?;
     }
     Ok(())
 }

@@ -281,6 +281,16 @@ pub struct RouteFound {
     pub route: Route,
 }
 
+/// The answer of [`field_in_use`](super::field_in_use).
+#[repr(C)]
+#[derive(Clone, Copy, Debug, Default, PartialEq, Eq)]
+pub struct Field {
+    /// Why the call was refused, or 0.
+    pub refusal: u64,
+    /// 1 where the value says that the Capsule Protocol is in use.
+    pub in_use: u64,
+}
+
 /// The answer of [`translate`](super::translate).
 #[repr(C)]
 #[derive(Clone, Copy, Debug, Default, PartialEq, Eq)]

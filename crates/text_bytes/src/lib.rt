@@ -1,0 +1,1 @@
+// A quoted text as bytes: see specs/Text.antt.
