@@ -1,16 +1,18 @@
 // The entries of RFC 9484's address capsules (section 4.7), handed out one after another.
+#![tactic(auto)]
+
 ghost use Rattle.std.specs.Prelude.{◌≡◌, ◌+◌, ◌≤◌, length, take, drop};
 ghost use Rattle.address_cursor.specs.Handing.{without, padded, blank_address, address_answer, next_address, blank_range, range_answer, next_range};
 
 use addresses::{Place, RangePlace, entry_at, range_at};
 
 // A place in a value; a reading starts at 0.
-#[derive(Drop)]
+#[derive(Clone, Copy)]
 pub struct Cursor {
     pub at: usize,
 }
 
-#[derive(Drop)]
+#[derive(Clone, Copy)]
 pub enum Found {
     Entry,
     End,
@@ -18,7 +20,7 @@ pub enum Found {
 }
 
 // An address of IP version 4 is the first four bytes, and the others are 0.
-#[derive(Drop)]
+#[derive(Clone, Copy)]
 pub struct Address {
     pub id: u64,
     pub version: u8,
@@ -26,14 +28,14 @@ pub struct Address {
     pub prefix: u8,
 }
 
-#[derive(Drop)]
+#[derive(Clone, Copy)]
 pub struct NextAddress {
     pub found: Found,
     pub address: Address,
     pub next: Cursor,
 }
 
-#[derive(Drop)]
+#[derive(Clone, Copy)]
 pub struct AddressRange {
     pub version: u8,
     pub start: [u8; 16],
@@ -41,7 +43,7 @@ pub struct AddressRange {
     pub protocol: u8,
 }
 
-#[derive(Drop)]
+#[derive(Clone, Copy)]
 pub struct NextRange {
     pub found: Found,
     pub range: AddressRange,

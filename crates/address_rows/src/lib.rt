@@ -1,4 +1,6 @@
 // Rows of records (RFC 9484, section 4.7), lent by a host: the value of an address capsule put together from them.
+#![tactic(auto)]
+
 ghost use Rattle.std.specs.Prelude.{◌≡◌, true, false, [], ◌∷◌, ◌+◌, ◌≤◌, ◌<◌, length, take, drop};
 ghost use Rattle.addresses.specs.Addresses.{width_of, all_of};
 ghost use Rattle.addresses.specs.Encoding.{range_bytes};

@@ -1,5 +1,5 @@
 -- The order of ranges. Assumes nothing.
-use Rattle.walks.proofs.Words.{◌≡◌, refl, sym, ◌∙◌, Bool, true, false, ◌&&◌, ◌||◌, and_false, ◌≤◌, ◌<◌, arith, List, [], ◌∷◌, ltb, eqb, lt-ltb, le-ltb, eq-eqb, ltb-true, ltb-false, eqb-true, not-true}
+use Rattle.walks.proofs.Words.{◌≡◌, refl, sym, ◌∙◌, Bool, true, false, ◌&&◌, ◌||◌, and-false, ◌≤◌, ◌<◌, arith, List, [], ◌∷◌, ltb, eqb, lt-ltb, le-ltb, eq-eqb, ltb-true, ltb-false, eqb-true, not-true}
 use Rattle.address_rules.proofs.Terms.{Range, good_range, before, in_order, all_of, every_two, NeighboursDecide, both}
 
 pub is_good : (r : Range) → good_range r ≡ true → r.start ≤ r.end
@@ -87,7 +87,7 @@ neighbours_decide (p ∷ (q ∷ rs)) g =
   where
     go : (t : Bool) → before p q ≡ t → (u : Bool) → all_of (before q) rs ≡ u → t && (u && every_two before rs) ≡ (t && all_of (before p) rs) && (u && every_two before rs)
     go false d u e = refl
-    go true d false e = sym (and_false (all_of (before p) rs))
+    go true d false e = sym (and-false (all_of (before p) rs))
     go true d true e =
         let good = (both (good_range q) (all_of good_range rs) (both (good_range p) (all_of good_range (q ∷ rs)) g).1).0 in
         rw (through_all p q good d rs e)

@@ -1,5 +1,5 @@
 -- One pass checks the rule over every two ranges. Assumes nothing.
-use Rattle.walks.proofs.Words.{◌≡◌, refl, sym, ap, ◌∙◌, Bool, true, false, ◌&&◌, ◌||◌, and-true, and_false, and_assoc, or-true, Option, none, some, ℕ, zero, suc, ◌≤◌, ◌<◌, arith, List, [], ◌∷◌, ◌++◌, append_assoc, ltb, eqb, lt-ltb, eq-eqb, ne_eqb, eqb-true, eqb-false}
+use Rattle.walks.proofs.Words.{◌≡◌, refl, sym, ap, ◌∙◌, Bool, true, false, ◌&&◌, ◌||◌, and-true, and-false, and_assoc, or-true, Option, none, some, ℕ, zero, suc, ◌≤◌, ◌<◌, arith, List, [], ◌∷◌, ◌++◌, append_assoc, ltb, eqb, lt-ltb, eq-eqb, ne_eqb, eqb-true, eqb-false}
 use Rattle.address_rules.proofs.Terms.{Range, good_range, before, in_order, disjoint, apart, all_apart, all_of, good_ranges, follows, same_of, clear_from, fits, after, pass, Each, PassIsRule}
 use Rattle.address_rules.proofs.Order.{Order, newer, other, above, order}
 
@@ -64,8 +64,8 @@ module _ (r s : Range) where
   apart_other p h = rw (eq-eqb s.version r.version h.0, ne_eqb r.protocol 0 (λ e. omega arith), lt-ltb 0 r.protocol p) (go (ltb 0 s.protocol))
     where
       go : (t : Bool) → (eqb s.protocol 0 && false) || ((t && true) || disjoint s r) ≡ t || disjoint s r
-      go true = rw (and_false (eqb s.protocol 0))
-      go false = rw (and_false (eqb s.protocol 0))
+      go true = rw (and-false (eqb s.protocol 0))
+      go false = rw (and-false (eqb s.protocol 0))
 
 -- ---- a range after those that were seen
 
@@ -178,14 +178,14 @@ cross_more seen r rs = all_append (λ s. all_of (apart s) rs) seen (r ∷ []) �
 
 shuffle : (g a G O B C D : Bool) → (g && a) && (G && (O && ((B && C) && D))) ≡ (g && G) && (O && ((a && B) && (C && D)))
 shuffle false a G O B C D = refl
-shuffle true a false O B C D = and_false a
-shuffle true a true false B C D = and_false a
+shuffle true a false O B C D = and-false a
+shuffle true a true false B C D = and-false a
 shuffle true false true true B C D = refl
 shuffle true true true true false C D = refl
 shuffle true true true true true C D = refl
 
 none_of : (g G X : Bool) → (g && false) && X ≡ (g && G) && false
-none_of true G X = sym (and_false G)
+none_of true G X = sym (and-false G)
 none_of false G X = refl
 
 abbrev Rule : Option Range → List Range → List Range → List Range → Type 0

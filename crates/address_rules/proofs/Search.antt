@@ -1,6 +1,6 @@
 -- The search among the ranges of one version that stand before a range: they are clear from it exactly if the first one that is not wholly below it,
 -- or is for another protocol, is. Assumes nothing.
-use Rattle.walks.proofs.Words.{◌≡◌, refl, sym, ap, ◌∙◌, Bool, true, false, ◌&&◌, and_false, or-true, ℕ, zero, suc, ◌+◌, ◌-◌, ◌*◌, ◌/◌, ◌≤◌, ◌<◌, suc-mul, le-div_iff_mul-le, mul-div_cancel, div-mul-le_self, mul-le-mul_left, arith, List, [], ◌∷◌, length, get_or, take, drop, ltb, eqb, lt-ltb, le-ltb, ltb-true, eq-eqb, eqb-true}
+use Rattle.walks.proofs.Words.{◌≡◌, refl, sym, ap, ◌∙◌, Bool, true, false, ◌&&◌, and-false, or-true, ℕ, zero, suc, ◌+◌, ◌-◌, ◌*◌, ◌/◌, ◌≤◌, ◌<◌, suc-mul, le-div_iff_mul-le, mul-div_cancel, div-mul-le_self, mul-le-mul_left, arith, List, [], ◌∷◌, length, get_or, take, drop, ltb, eqb, lt-ltb, le-ltb, ltb-true, eq-eqb, eqb-true}
 use Rattle.address_rules.proofs.Terms.{num, split, both, Range, all_of, disjoint, clear_from, range_in, Stands, nth, Later, Rising}
 
 -- ---- the list of the ranges, by their numbers
@@ -35,7 +35,7 @@ one_by_number good v w from at [] h i k e = absurd (let z : ⊥ = omega arith in
 one_by_number good v w from at (s ∷ l) h zero k e = rw (ap good (h.0 ∙ first v w from) ∙ e)
 one_by_number good v w from at (s ∷ l) h (suc i) k e =
     let r : false ≡ all_of good l = one_by_number good v w (from + (w + w + 2)) at l h.1 i (omega arith) (ap good (shift v w from i) ∙ e) in
-    rw (← r) (sym (and_false (good s)))
+    rw (← r) (sym (and-false (good s)))
 
 -- ---- the search
 

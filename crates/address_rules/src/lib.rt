@@ -1,4 +1,6 @@
 // Values of RFC 9484's address capsules (section 4.7), checked: the order of ranges, and a value by its type.
+#![tactic(auto)]
+
 ghost use Rattle.std.specs.Prelude.{◌≡◌, cond, ◌&&◌, List, ◌+◌, ◌≤◌, ◌<◌, length, take, drop, get_or, ltb, eqb};
 ghost use Rattle.wire.specs.Bytes.{num};
 ghost use Rattle.addresses.specs.Addresses.{width_of, before, Range, all_of, are_good, good_ranges, entries, range_at, well_formed};

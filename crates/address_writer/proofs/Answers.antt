@@ -1,5 +1,5 @@
 -- The writers' answers, and what stands in the output. Assumes nothing.
-use Rattle.walks.proofs.Words.{◌≡◌, refl, sym, ap, ◌∙◌, ◌↔◌, ℕ, zero, suc, ◌+◌, ◌*◌, ◌/◌, ◌^◌, ◌≤◌, arith, Bool, true, false, cond, ◌&&◌, and_false, not, List, [], ◌∷◌, ◌++◌, append_assoc, length, take, drop, get_or, length-drop, sets, sets-eq, length-sets, take_at, drop_at, drop-drop, length-take-le, leb, ltb, eqb, le-leb, leb-true, leb-false, lt-ltb, eq-eqb, not-false}
+use Rattle.walks.proofs.Words.{◌≡◌, refl, sym, ap, ◌∙◌, ◌↔◌, ℕ, zero, suc, ◌+◌, ◌*◌, ◌/◌, ◌^◌, ◌≤◌, arith, Bool, true, false, cond, ◌&&◌, and-false, not, List, [], ◌∷◌, ◌++◌, append_assoc, length, take, drop, get_or, length-drop, sets, sets-eq, length-sets, take_at, drop_at, drop-drop, length-take-le, leb, ltb, eqb, le-leb, leb-true, leb-false, lt-ltb, eq-eqb, not-false}
 use Rattle.address_writer.proofs.Terms.{Refusal, output_too_short, number_too_large, malformed_to_write, Written, Refused, Wrote, Bytes, num, Writing, writing, refuses, write_at, bytes_take, bytes_drop, num_lt, Opening, Address, AddressDelivered, parts, opted, kind_of, extent_by, extent_of, report_by, report_of, judged, reported, by_the_grammar, assign, request, is_address_type, longest_address_value, width_of, all_of, good_entry, good_requests, good_ranges, well_formed, entry_bytes, value_bytes, entry_size, entry_of, range_size, range_of, first_of, all_in, is_whole, entries_in, ranges_in, id_fits, capsule_of, write_value, write_addresses, write_routes, alone, Form, entry_fits, range_fits, addresses, ranges, all_known, is_writable, AddressCapsule, address_assign, address_request, route_advertisement, type_of, value_of, write_of, has_large_id, record_size, keeps_rules, Answered, RefusedExactly, ReadBackAs, DeliveredTo, Standing, WrittenStands, RefusedNothing, address-length, impossible, both}
 use Rattle.address_writer.proofs.{Writing.formed_short, Writing.formed_largest, Capsules.one-capsule, ReadBack.reads_back, ReadBack.writable_exactly}
 
@@ -188,9 +188,9 @@ module _ (op : Opening) (o : opted op ≡ true) (k : AddressCapsule) where
   is_address = go k
     where
       go : (j : AddressCapsule) → kind_of op (type_of j) ≡ Address
-      go address_assign = rw (o, and_false op.draft)
-      go address_request = rw (o, and_false op.draft)
-      go route_advertisement = rw (o, and_false op.draft)
+      go address_assign = rw (o, and-false op.draft)
+      go address_request = rw (o, and-false op.draft)
+      go route_advertisement = rw (o, and-false op.draft)
 
   module _ (v : List ℕ) (good : well_formed (type_of k) v ≡ true) where
     all_of_it : extent_of op (type_of k) (length v) ≡ length v

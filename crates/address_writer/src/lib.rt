@@ -1,4 +1,6 @@
 // ADDRESS_ASSIGN, ADDRESS_REQUEST and ROUTE_ADVERTISEMENT capsules (RFC 9484, section 4.7), written from rows of records.
+#![tactic(auto)]
+
 ghost use Rattle.std.specs.Prelude.{◌≡◌, true, false};
 ghost use Rattle.wire.specs.Writing.{writing};
 ghost use Rattle.addresses.specs.Addresses.{assign, request, all_of};

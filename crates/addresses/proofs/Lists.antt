@@ -1,5 +1,5 @@
 -- Entries one after another. Assumes nothing.
-use Rattle.walks.proofs.Words.{◌≡◌, refl, sym, ap, ◌∙◌, Bool, true, false, ◌&&◌, and_false, Option, none, some, Option·map, ℕ, zero, suc, ◌<◌, arith, List, [], ◌∷◌, map, length}
+use Rattle.walks.proofs.Words.{◌≡◌, refl, sym, ap, ◌∙◌, Bool, true, false, ◌&&◌, and-false, Option, none, some, Option·map, ℕ, zero, suc, ◌<◌, arith, List, [], ◌∷◌, map, length}
 use Rattle.addresses.proofs.Terms.{Step, done, malformed, next, ahead, onwards, entries_by, entries, are_good}
 
 -- by `cc`, from two constructors that would be equal
@@ -61,7 +61,7 @@ module _ {A : Type 0} (read : List ℕ → Step A) (shrinks : Shrinks read) wher
     judged-next rest a t more f e = ap (are_good good) (entries_next v rest a e) ∙ go (entries read rest)
       where
         go : (es : Option (List A)) → are_good good (ahead a es) ≡ t && are_good more es
-        go none = unfold are_good ahead in sym (and_false t)
+        go none = unfold are_good ahead in sym (and-false t)
         go (some es) = unfold are_good ahead in f es
 
 pub map-ahead : {A B : Type 0} (form : A → B) (e : A) (es : Option (List A)) → Option·map (map form) (ahead e es) ≡ ahead (form e) (Option·map (map form) es)

@@ -1,4 +1,6 @@
 // Values of RFC 9484's address capsules (section 4.7).
+#![tactic(auto)]
+
 ghost use Rattle.std.specs.Prelude.{◌≡◌, cond, ◌+◌, ◌-◌, ◌%◌, ◌^◌, ◌≤◌, ◌<◌, length, take, drop, eqb};
 ghost use Rattle.addresses.specs.Addresses.{width_of, clear_beyond, good_entry, asks, all_of, are_good, entries, address_at, entry_at};
 ghost use Rattle.addresses.specs.Places.{entry_in, EntryRead, RangeRead};
@@ -6,7 +8,7 @@ ghost use Rattle.addresses.specs.Places.{entry_in, EntryRead, RangeRead};
 use wire::varint::{Varint, read_varint};
 
 // Where an entry of a value stands: its address starts at `address` and is `width` bytes long, and its prefix length is the byte after it.
-#[derive(Drop)]
+#[derive(Clone, Copy)]
 pub enum Place {
     End,
     Malformed,
@@ -19,7 +21,7 @@ pub enum Place {
 }
 
 // A range of a value, whose addresses are so many bytes long.
-#[derive(Drop)]
+#[derive(Clone, Copy)]
 pub enum RangePlace {
     End,
     Malformed,

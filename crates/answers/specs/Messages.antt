@@ -1,7 +1,7 @@
 -- Messages by numbers, the Capsule-Protocol field's value and what an error becomes, in numbers. `translated` (crate http) says what it becomes.
 use Rattle.std.specs.Prelude.{ℕ, cond}
-use Rattle.http.specs.declared.messages.Message.{Message}
-use Rattle.http.specs.declared.messages.Message.TheVariants.{Request, Response}
+use Rattle.http_messages.specs.declared.messages.Message.{Message}
+use Rattle.http_messages.specs.declared.messages.Message.TheVariants.{Request, Response}
 use Rattle.capsule_protocol.specs.declared.field.FieldValue.{FieldValue}
 use Rattle.capsule_protocol.specs.declared.field.FieldValue.TheVariants as field
 use Rattle.http_errors.specs.declared.translation.Action.{Action}

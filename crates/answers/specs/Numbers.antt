@@ -4,8 +4,8 @@ use Rattle.capsule.specs.declared.reader.CloseAnswer.{CloseAnswer}
 use Rattle.capsule.specs.declared.reader.CloseAnswer.TheVariants.{Refused, Clean, Truncated}
 use Rattle.stream_records.specs.declared.record.Side.{Side}
 use Rattle.stream_records.specs.declared.record.Side.TheVariants.{Receive, Send}
-use Rattle.http.specs.declared.errors.ErrorOf.{ErrorOf}
-use Rattle.http.specs.declared.errors.ErrorOf.TheVariants.{NoError, Is}
+use Rattle.http_messages.specs.declared.errors.ErrorOf.{ErrorOf}
+use Rattle.http_messages.specs.declared.errors.ErrorOf.TheVariants.{NoError, Is}
 
 -- ---- readings
 

@@ -6,7 +6,7 @@ use address_cursor::{Found, NextAddress, NextRange};
 
 // address: of IP version 4 its first four bytes, the others 0; reserved: 0
 #[repr(C)]
-#[derive(Drop)]
+#[derive(Clone, Copy)]
 pub struct AddressEntry {
     pub id: u64,
     pub version: u8,
@@ -16,7 +16,7 @@ pub struct AddressEntry {
 }
 
 #[repr(C)]
-#[derive(Drop)]
+#[derive(Clone, Copy)]
 pub struct RouteEntry {
     pub version: u8,
     pub protocol: u8,
@@ -26,7 +26,7 @@ pub struct RouteEntry {
 
 // found: 0 none, 1 an entry, 2 malformed
 #[repr(C)]
-#[derive(Drop)]
+#[derive(Clone, Copy)]
 pub struct AddressFound {
     pub found: u64,
     pub next: u64,
@@ -34,7 +34,7 @@ pub struct AddressFound {
 }
 
 #[repr(C)]
-#[derive(Drop)]
+#[derive(Clone, Copy)]
 pub struct RouteFound {
     pub found: u64,
     pub next: u64,

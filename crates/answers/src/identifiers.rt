@@ -7,7 +7,7 @@ use refusals::Refusal;
 use wire::units::{QuarterOf, StreamOf};
 
 #[repr(C)]
-#[derive(Drop)]
+#[derive(Clone, Copy)]
 pub struct QuarterAnswer {
     pub refusal: u64,
     pub quarter: u64,
@@ -15,7 +15,7 @@ pub struct QuarterAnswer {
 
 // too_large: 1 for a number that is no quarter
 #[repr(C)]
-#[derive(Drop)]
+#[derive(Clone, Copy)]
 pub struct StreamIdAnswer {
     pub too_large: u64,
     pub stream_id: u64,

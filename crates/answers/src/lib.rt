@@ -1,4 +1,6 @@
 // Answers as structs of numbers, and how other numbers are read.
+#![tactic(auto)]
+
 pub mod address_capsules;
 pub mod identifiers;
 pub mod messages;

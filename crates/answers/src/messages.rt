@@ -4,13 +4,13 @@ ghost use Rattle.answers.specs.Messages.{message_of, field_answer, action_answer
 
 use crate::numbers::{refusal_number, status_of};
 use capsule_protocol::field::FieldValue;
-use http::messages::Message;
+use http_messages::messages::Message;
 use http_errors::translation::{Action, Translation};
 use reader_words::numbers::flag_of;
 
 // in_use: 1 or 0
 #[repr(C)]
-#[derive(Drop)]
+#[derive(Clone, Copy)]
 pub struct FieldAnswer {
     pub refusal: u64,
     pub in_use: u64,
@@ -18,7 +18,7 @@ pub struct FieldAnswer {
 
 // action: 0 none, 1 close, 2 stream error, 3 connection error
 #[repr(C)]
-#[derive(Drop)]
+#[derive(Clone, Copy)]
 pub struct TranslationAnswer {
     pub refusal: u64,
     pub action: u64,

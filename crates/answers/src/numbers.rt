@@ -2,7 +2,7 @@
 ghost use Rattle.std.specs.Prelude.{◌≡◌};
 ghost use Rattle.answers.specs.Numbers.{side_of, status_of, error_number};
 
-use http::errors::ErrorOf;
+use http_messages::errors::ErrorOf;
 use reader_words::numbers::wide;
 use refusals::Refusal;
 use stream_records::record::Side;

@@ -7,7 +7,7 @@ use one_shot_listing::{Ending, Listed};
 
 // end: 1 clean, 2 truncated
 #[repr(C)]
-#[derive(Drop)]
+#[derive(Clone, Copy)]
 pub struct ListingAnswer {
     pub refusal: u64,
     pub capsules: u64,

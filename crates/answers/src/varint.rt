@@ -7,14 +7,14 @@ use wire::varint::{Varint, Written};
 
 // size 0: incomplete
 #[repr(C)]
-#[derive(Drop)]
+#[derive(Clone, Copy)]
 pub struct VarintAnswer {
     pub value: u64,
     pub size: u64,
 }
 
 #[repr(C)]
-#[derive(Drop)]
+#[derive(Clone, Copy)]
 pub struct WrittenAnswer {
     pub refusal: u64,
     pub written: u64,

@@ -17,8 +17,8 @@ unfoldable pub use Rattle.capsule.specs.{Book.book_call, Book.new_book, Book.onl
 pub use Rattle.capsule_laws.proofs.{Arising.refused-close_unchanged, Lists.demand_3, Lists.fresh_book, Lists.fresh_open, Lists.made_book, Lists.open_fresh, Makeable.calls_makeable, Makeable.refused_unchanged, Makeable.stays_makeable}
 pub use Rattle.capsule_laws.specs.{Claims.HandedOn}
 pub use Rattle.datagram.proofs.{Framing.framed, Outgoing.sent}
-pub use Rattle.http.specs.{declared.errors.ErrorOf.ErrorOf}
-unfoldable pub use Rattle.http.specs.{Errors.number}
+pub use Rattle.http_messages.specs.{declared.errors.ErrorOf.ErrorOf}
+unfoldable pub use Rattle.http_messages.specs.{Errors.number}
 pub use Rattle.capsule_protocol.specs.{declared.field.FieldValue.FieldValue}
 pub use Rattle.http_errors.specs.{declared.translation.Translation.Translation}
 unfoldable pub use Rattle.http_errors.specs.{Ties.close_error, Ties.judged_error, Ties.report_error}

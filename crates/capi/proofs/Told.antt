@@ -17,7 +17,7 @@ use Rattle.look.specs.declared.Looked.TheVariants as looked_as
 use Rattle.reader_words.specs.declared.words.Loaded.TheVariants as loaded
 use Rattle.one_shot_listing.specs.declared.Ending.TheVariants as ending
 use Rattle.one_shot_listing.specs.declared.Listed.TheVariants as listed
-use Rattle.http.specs.declared.errors.ErrorOf.TheVariants as error_as
+use Rattle.http_messages.specs.declared.errors.ErrorOf.TheVariants as error_as
 use Rattle.capsule_protocol.specs.declared.field.FieldValue.TheVariants as field
 use Rattle.http_errors.specs.declared.translation.Action.TheVariants as action
 use Rattle.http_errors.specs.declared.translation.Translation.TheVariants as translation

@@ -30,7 +30,7 @@ use Rattle.judging.specs.declared.judge.Judged.TheVariants as judged
 use Rattle.judging.specs.Judging.{quarter}
 use Rattle.one_shot_listing.specs.declared.Ending.TheVariants as ending
 use Rattle.one_shot_listing.specs.declared.Listed.TheVariants as listed
-use Rattle.http.specs.declared.messages.Message.TheVariants.{Request, Response}
+use Rattle.http_messages.specs.declared.messages.Message.TheVariants.{Request, Response}
 use Rattle.capsule_protocol.specs.declared.field.FieldValue.TheVariants as field
 use Rattle.http_errors.specs.declared.translation.Action.TheVariants as action
 use Rattle.http_errors.specs.declared.translation.Translation.TheVariants as translation

@@ -39,8 +39,8 @@ use Rattle.look.specs.declared.Looked.TheVariants as looked_as
 use Rattle.one_shot_listing.specs.declared.Ending.TheVariants as ending
 use Rattle.one_shot_listing.specs.declared.Listed.{Listed}
 use Rattle.one_shot_listing.specs.declared.Listed.TheVariants as listed
-use Rattle.http.specs.declared.errors.ErrorOf.{ErrorOf}
-use Rattle.http.specs.declared.errors.ErrorOf.TheVariants as error_as
+use Rattle.http_messages.specs.declared.errors.ErrorOf.{ErrorOf}
+use Rattle.http_messages.specs.declared.errors.ErrorOf.TheVariants as error_as
 use Rattle.capsule_protocol.specs.declared.field.FieldValue.{FieldValue}
 use Rattle.capsule_protocol.specs.declared.field.FieldValue.TheVariants as field
 use Rattle.http_errors.specs.declared.translation.Action.TheVariants as action

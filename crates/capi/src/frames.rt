@@ -16,7 +16,7 @@ use wire::units::StreamId;
 
 // The stated stream limit, in quarters, and the datagram limit.
 #[repr(C)]
-#[derive(Drop)]
+#[derive(Clone, Copy)]
 pub struct Limits {
     pub stream_limit: u64,
     pub datagram_limit: u64,
@@ -24,7 +24,7 @@ pub struct Limits {
 
 // What a frame is sent by: both settings, and the path size.
 #[repr(C)]
-#[derive(Drop)]
+#[derive(Clone, Copy)]
 pub struct FrameTerms {
     pub our_setting: u64,
     pub peer_setting: u64,

@@ -1,4 +1,6 @@
 // What a host calls from C: the functions that include/maruzhenu.h declares.
+#![tactic(auto)]
+
 mod address_capsules;
 mod frames;
 mod identifiers;

@@ -1,8 +1,8 @@
 // Settings, messages, the Capsule-Protocol field, error translation.
 ghost use Rattle.std.specs.Prelude.{◌≡◌};
 ghost use Rattle.capsule_protocol.specs.Field.{field_of};
-ghost use Rattle.http.specs.Messages.{field_counts, request_malformed, response_malformed};
-ghost use Rattle.http.specs.Settings.{received_setting, setting_error};
+ghost use Rattle.http_messages.specs.Messages.{field_counts, request_malformed, response_malformed};
+ghost use Rattle.http_messages.specs.Settings.{received_setting, setting_error};
 ghost use Rattle.http_errors.specs.Translation.{translated};
 ghost use Rattle.reader_words.specs.Numbers.{flag_of, bit_of};
 ghost use Rattle.answers.specs.Numbers.{status_of, error_number};
@@ -13,8 +13,8 @@ use answers::messages::{
 };
 use answers::numbers::{error_number, status_of};
 use capsule_protocol::field::read_field;
-use http::messages::{request_malformed, response_malformed};
-use http::settings::received;
+use http_messages::messages::{request_malformed, response_malformed};
+use http_messages::settings::received;
 use http_errors::translation::translate;
 use reader_words::numbers::{bit_of, flag_of};
 

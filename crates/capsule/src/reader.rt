@@ -13,20 +13,20 @@ use planning::{Ended, Phase, held_of, is_makeable_phase, plan_of};
 use refusals::Refusal;
 use wire::partial::Partial;
 
-#[derive(Drop)]
+#[derive(Clone, Copy)]
 pub struct Reader {
     pub opening: Opening,
     pub phase: Phase,
     pub finished: bool,
 }
 
-#[derive(Drop)]
+#[derive(Clone, Copy)]
 pub enum Opened {
     Refused(Refusal),
     Ready(Reader),
 }
 
-#[derive(Drop)]
+#[derive(Clone, Copy)]
 pub enum FeedAnswer {
     Refused(Refusal),
     Took {
@@ -36,20 +36,20 @@ pub enum FeedAnswer {
     },
 }
 
-#[derive(Drop)]
+#[derive(Clone, Copy)]
 pub struct Fed {
     pub reader: Reader,
     pub answer: FeedAnswer,
 }
 
-#[derive(Drop)]
+#[derive(Clone, Copy)]
 pub enum CloseAnswer {
     Refused(Refusal),
     Clean,
     Truncated,
 }
 
-#[derive(Drop)]
+#[derive(Clone, Copy)]
 pub struct Closed {
     pub reader: Reader,
     pub answer: CloseAnswer,

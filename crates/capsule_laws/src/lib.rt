@@ -1,1 +1,2 @@
 // What holds of the capsule grammar, the book and the reader: see specs/Claims.antt.
+#![tactic(auto)]

@@ -1,5 +1,5 @@
 -- Which values are absent. Assumes nothing.
-use Rattle.walks.proofs.Words.{◌≡◌, refl, sym, ap, ◌∙◌, Bool, true, false, cond, false≢true, and-true, and_false, ℕ, List, [], ◌∷◌, ◌++◌, append_assoc, append-nil, eqb-true, ◌⊎◌, inl, inr, ⊎_elim}
+use Rattle.walks.proofs.Words.{◌≡◌, refl, sym, ap, ◌∙◌, Bool, true, false, cond, false≢true, and-true, and-false, ℕ, List, [], ◌∷◌, ◌++◌, append_assoc, append-nil, eqb-true, ◌⊎◌, inl, inr, ⊎_elim}
 use mathlib.Core.Bool.{and-eq-true_iff}
 use Rattle.capsule_protocol.proofs.Terms.{Rule, empty, one, every, up_to, ◌then◌, ◌thenMany◌, is, is_space, is_lower, is_alpha, is_digit, is_key_start, is_key_byte, is_token_start, is_token_byte, is_bit, sf_integer, sf_decimal, chr, sf_string, sf_token, sf_binary, sf_boolean, bare_item, key, parameters, sf_item, in_use, Stage, Reading, Front, Question, Item, Trailing, Semicolon, Key, Equals, Number, Fraction, Text, Escape, Token, Binary, Boolean, Wrong, at, at_if, within, after_item, after_digits, next_at, next_of, rest_of, rest_at, up_to_after, reading, may_end, In, is_blank, OtherItemsAbsent, ListsAbsent, InnerListsAbsent, OnlyItemsInUse}
 use Rattle.capsule_protocol.proofs.Firsts.{bare_item_first}
@@ -12,7 +12,7 @@ use Rattle.capsule_protocol.proofs.Values.{in_use_exactly}
 pub then_end : (x : Rule) (s : List ℕ) → (x then empty) s ≡ x s
 unfolding ◌then◌ empty
 then_end x [] = and-true (x [])
-then_end x (b ∷ s) = rw (and_false (x [])) (then_end (λ t. x (b ∷ t)) s)
+then_end x (b ∷ s) = rw (and-false (x [])) (then_end (λ t. x (b ∷ t)) s)
 
 -- ---- by the first bytes
 
@@ -73,7 +73,7 @@ inner_lists_absent i t = spaces_in_front i (0x28 ∷ t) ∙ first_wrong 0x28 t r
 
 nothing-more : Spaces empty
 unfolding empty
-nothing-more = record { first = λ b s. sym (and_false (is_space b)); second = λ b s. sym (and_false (is_space b)) }
+nothing-more = record { first = λ b s. sym (and-false (is_space b)); second = λ b s. sym (and-false (is_space b)) }
 
 -- where the parameters may end, there is no way on with a comma or a tab, and with a space only to the end
 pub record Ended (r : Reading) : Type 0 where

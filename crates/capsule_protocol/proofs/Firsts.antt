@@ -1,5 +1,5 @@
 -- What the first byte of each part of an item decides. Assumes nothing.
-use Rattle.walks.proofs.Words.{◌≡◌, refl, ap, ◌∙◌, Bool, true, false, ◌&&◌, ◌||◌, and_false, and_assoc, ℕ, suc, ◌+◌, ◌<◌, arith, List, ◌∷◌, length, leb, lt-leb, add-suc, add-zero, suc-add, zero-add}
+use Rattle.walks.proofs.Words.{◌≡◌, refl, ap, ◌∙◌, Bool, true, false, ◌&&◌, ◌||◌, and-false, and_assoc, ℕ, suc, ◌+◌, ◌<◌, arith, List, ◌∷◌, length, leb, lt-leb, add-suc, add-zero, suc-add, zero-add}
 use Rattle.capsule_protocol.proofs.Terms.{Rule, Class, one, every, up_to, ◌or◌, optional, ◌then◌, many, is, is_space, is_digit, is_key_start, is_key_byte, is_unescaped, is_escapable, is_token_start, is_token_byte, is_base64, is_bit, sf_integer, sf_decimal, chr, sf_string, sf_token, sf_binary, sf_boolean, bare_item, key, parameter, parameters, within, up_to_after}
 use Rattle.capsule_protocol.proofs.Joining.{front_same, back_same, then_none, then_if, then_or, then_optional, then_then, after_one, then_one, then_many}
 
@@ -16,7 +16,7 @@ module _ (most : ℕ) (p : Class) where
 
   more_came : (n : ℕ) → most < n → (s : List ℕ) → up_to_after n most p s ≡ false
   unfolding up_to_after
-  more_came n h s = rw (lt-leb (length s + n) most (omega arith), and_false (leb 1 (length s + n)), and_false (every p s))
+  more_came n h s = rw (lt-leb (length s + n) most (omega arith), and-false (leb 1 (length s + n)), and-false (every p s))
 
   module _ (y : Rule) (n : ℕ) where
     pub then_up_to : (b : ℕ) (s : List ℕ) → (up_to_after n most p then y) (b ∷ s) ≡ (within n most && y (b ∷ s)) || (p b && (up_to_after (suc n) most p then y) s)

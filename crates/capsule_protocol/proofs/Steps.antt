@@ -1,5 +1,5 @@
 -- One byte more: what the grammar asks for after it, stage by stage. Assumes nothing.
-use Rattle.walks.proofs.Words.{◌≡◌, refl, sym, ap, ◌∙◌, Bool, true, false, cond, ◌&&◌, ◌||◌, or-false, and_false, and-true, zero-add, false≢true, ℕ, suc, ◌<◌, ◌≤◌, arith, ◌+◌, add-one, List, [], ◌∷◌, length, get_or, drop, drop-cons, drop_of_length-le, eqb, leb, leb-true, lt-leb, ltb, eqb-true, ltb-false}
+use Rattle.walks.proofs.Words.{◌≡◌, refl, sym, ap, ◌∙◌, Bool, true, false, cond, ◌&&◌, ◌||◌, or-false, and-false, and-true, zero-add, false≢true, ℕ, suc, ◌<◌, ◌≤◌, arith, ◌+◌, add-one, List, [], ◌∷◌, length, get_or, drop, drop-cons, drop_of_length-le, eqb, leb, leb-true, lt-leb, ltb, eqb-true, ltb-false}
 use Rattle.capsule_protocol.proofs.Terms.{Rule, Class, empty, one, every, up_to, ◌then◌, ◌thenMany◌, is, is_space, is_lower, is_alpha, is_digit, is_key_start, is_key_byte, is_unescaped, is_escapable, is_token_start, is_token_byte, is_base64, is_bit, sf_integer, sf_decimal, chr, sf_string, sf_token, sf_binary, sf_boolean, bare_item, key, parameters, true_item, in_use, Stage, Reading, Front, Question, Item, Trailing, Semicolon, Key, Equals, Number, Fraction, Text, Escape, Token, Binary, Boolean, Wrong, at, at_if, within, one_more, after_item, after_digits, first_of_bare_item, next_at, rest_of, rest_at, up_to_after, next_of, may_end, may_end_at, Stays, SameRest}
 use Rattle.capsule_protocol.proofs.Joining.{front_same, back_same, then_then, then_one, then_every}
 use mathlib.Core.Bool.{and-eq-true_iff}
@@ -111,7 +111,7 @@ module _ (x : Rule) (spaces : Spaces x) (b : ℕ) (s : List ℕ) where
     unfolding rest_at is_digit
     digit_next e =
         (λ i. then_up_to 15 is_digit (parameters then x) n b s i || then_up_to 12 is_digit decimals n b s i)
-        ∙ rw (e, item_not (apart is_digit 0x3b refl b e) (apart is_digit 0x20 refl b e), decimals-first, apart is_digit 0x2e refl b e, and_false (within n 15), and_false (within n 12))
+        ∙ rw (e, item_not (apart is_digit 0x3b refl b e) (apart is_digit 0x20 refl b e), decimals-first, apart is_digit 0x2e refl b e, and-false (within n 15), and-false (within n 12))
 
     number-next : rest_at x Number n (b ∷ s) ≡ rest_of x (next_at Number n b) s
     unfolding rest_at next_at one_more at_if
@@ -124,9 +124,9 @@ module _ (x : Rule) (spaces : Spaces x) (b : ℕ) (s : List ℕ) where
         rw (too_many 15 is_digit (parameters then x) (suc n) (omega arith) s, too_many 12 is_digit decimals (suc n) (omega arith) s)))
         (λ e. (λ i. then_up_to 15 is_digit (parameters then x) n b s i || then_up_to 12 is_digit decimals n b s i) ∙ pick (is 0x2e b) _ _
         (λ f.
-        rw (e, item_not (apart (is 0x2e) 0x3b refl b f) (apart (is 0x2e) 0x20 refl b f), decimals-first, f, and_false (within n 15))
+        rw (e, item_not (apart (is 0x2e) 0x3b refl b f) (apart (is 0x2e) 0x20 refl b f), decimals-first, f, and-false (within n 15))
         (or-false (within n 12 && rest_at x Fraction 0 s) ∙ pick (within n 12) _ _ (λ g. rw g) (λ g. rw g)))
-        (λ f. rw (e, decimals-first, f, and_false (within n 12)) (or-false _ ∙ or-false _ ∙ digits-next 15)))
+        (λ f. rw (e, decimals-first, f, and-false (within n 12)) (or-false _ ∙ or-false _ ∙ digits-next 15)))
 
     fraction_next : rest_at x Fraction n (b ∷ s) ≡ rest_of x (next_at Fraction n b) s
     unfolding rest_at next_at one_more is_digit
@@ -134,8 +134,8 @@ module _ (x : Rule) (spaces : Spaces x) (b : ℕ) (s : List ℕ) where
         then_up_to 3 is_digit _ n b s
         ∙ pick (is_digit b) _ _
         (λ e. pick (ltb n 3) _ _
-        (λ f. rw (e, item_not (apart is_digit 0x3b refl b e) (apart is_digit 0x20 refl b e), and_false))
-        (λ f. rw (e, item_not (apart is_digit 0x3b refl b e) (apart is_digit 0x20 refl b e), and_false) (let l = ltb-false n 3 f in too_many 3 is_digit _ (suc n) (omega arith) s)))
+        (λ f. rw (e, item_not (apart is_digit 0x3b refl b e) (apart is_digit 0x20 refl b e), and-false))
+        (λ f. rw (e, item_not (apart is_digit 0x3b refl b e) (apart is_digit 0x20 refl b e), and-false) (let l = ltb-false n 3 f in too_many 3 is_digit _ (suc n) (omega arith) s)))
         (λ e. rw e (or-false _ ∙ digits-next 3))
 
   text-next : rest_at x Text 0 (b ∷ s) ≡ rest_of x (next_at Text 0 b) s
@@ -217,7 +217,7 @@ spaces-end r = go r.stage r.digits
     go Semicolon n = refl
     go Key n = refl
     go Equals n = refl
-    go Number n = (λ i. digits-end 15 n (parameters then every is_space) i || digits-end 12 n (one (is 0x2e) then up_to 3 is_digit then parameters then every is_space) i) ∙ rw (and-true, and_false) (or-false _)
+    go Number n = (λ i. digits-end 15 n (parameters then every is_space) i || digits-end 12 n (one (is 0x2e) then up_to 3 is_digit then parameters then every is_space) i) ∙ rw (and-true, and-false) (or-false _)
     go Fraction n = digits-end 3 n (parameters then every is_space) ∙ and-true _
     go Text n = refl
     go Escape n = refl

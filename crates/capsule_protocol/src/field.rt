@@ -6,7 +6,7 @@ ghost use Rattle.capsule_protocol.specs.Stages.{SameRest};
 use crate::stages::{Reading, Stage};
 use refusals::Refusal;
 
-#[derive(Drop)]
+#[derive(Clone, Copy)]
 pub enum FieldValue {
     // an item that is the Boolean true, whatever its parameters
     InUse,

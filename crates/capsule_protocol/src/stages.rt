@@ -8,7 +8,7 @@ use crate::bytes::{
     is_token_start, is_unescaped,
 };
 
-#[derive(Drop)]
+#[derive(Clone, Copy)]
 pub(crate) enum Stage {
     // at the spaces in front
     Front,
@@ -42,7 +42,7 @@ pub(crate) enum Stage {
     Wrong,
 }
 
-#[derive(Drop)]
+#[derive(Clone, Copy)]
 pub(crate) struct Reading {
     pub(crate) stage: Stage,
     digits: u8,

@@ -1,1 +1,2 @@
 // Worked cases about the definitions of the other crates: see specs/.
+#![tactic(auto)]

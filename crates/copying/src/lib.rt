@@ -1,4 +1,6 @@
 // Moving a run of bytes from one buffer to another.
+#![tactic(auto)]
+
 ghost use Rattle.std.specs.Prelude.{◌≡◌, ◌+◌, ◌≤◌, ◌<◌, length, take, drop};
 ghost use Rattle.std.proofs.Math.Seq.{paste};
 ghost use Rattle.copying.specs.Copy.{copy, copying};

@@ -1,5 +1,7 @@
 // Fast paths of the commonest feedings: between two capsules, where a short header is at the front of the piece, and within a value.
 // Any other feeding, refused ones too, is left to the general path.
+#![tactic(auto)]
+
 ghost use Rattle.std.specs.Prelude.{◌≡◌, ◌+◌, ◌-◌, ◌≤◌, length, true};
 ghost use Rattle.planning.specs.declared.Header.TheVariants.{Short};
 ghost use Rattle.opening.specs.declared.Verdict.TheVariants.{Accepted};
@@ -15,7 +17,7 @@ use copying::copy_span;
 use opening::{Kind, Opening, Report, Verdict, lent_verdict};
 use planning::{Header, is_makeable_value, short_header};
 
-#[derive(Drop)]
+#[derive(Clone, Copy)]
 pub enum Whole {
     // nothing was changed
     Not,
@@ -33,7 +35,7 @@ pub enum Whole {
     },
 }
 
-#[derive(Drop)]
+#[derive(Clone, Copy)]
 pub enum Inside {
     // nothing was changed
     Not,

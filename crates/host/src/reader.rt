@@ -32,7 +32,7 @@ pub fn close_in_place(r: &mut Reader) -> CloseAnswer
 }
 
 // A host's own record, with a reader in it.
-#[derive(Drop)]
+#[derive(Clone, Copy)]
 pub struct Connection {
     pub id: u64,
     pub reader: Reader,

@@ -1,9 +1,9 @@
 // A line on standard output for each question and its answer.
 use capsule_protocol::field::{FieldValue, read_field};
-use http::errors::ErrorOf;
-use http::messages::Message;
-use http::settings::Setting;
-use http::{messages, settings};
+use http_messages::errors::ErrorOf;
+use http_messages::messages::Message;
+use http_messages::settings::Setting;
+use http_messages::{messages, settings};
 use http_errors::translation;
 use http_errors::translation::{Action, ErrorCode, Translation};
 use libc::STDOUT_FILENO;

@@ -1,9 +1,11 @@
 // Prints what the crates http, capsule_protocol and http_errors answer, a line for each question.
+#![tactic(auto)]
+
 mod answers;
 
 use answers::{message, setting, translation, value};
-use http::errors::HttpError;
-use http::messages::Message;
+use http_messages::errors::HttpError;
+use http_messages::messages::Message;
 
 fn row(error: HttpError) {
     translation(error.0, 1);

@@ -8,7 +8,7 @@ use Rattle.capsule.specs.declared.reader.CloseAnswer.{CloseAnswer}
 use Rattle.capsule.specs.declared.reader.CloseAnswer.TheVariants as close
 use Rattle.judging.specs.declared.judge.Judged.{Judged}
 use Rattle.judging.specs.Judging.{rule_of}
-use Rattle.http.specs.declared.errors.ErrorOf.TheVariants.{Is}
+use Rattle.http_messages.specs.declared.errors.ErrorOf.TheVariants.{Is}
 use Rattle.http_errors.specs.Ties.{close_error, report_error, judged_error}
 use Rattle.http_errors.specs.Translation.{translated}
 

@@ -5,9 +5,9 @@ use Rattle.capsule.specs.declared.reader.CloseAnswer.{CloseAnswer}
 use Rattle.capsule.specs.declared.reader.CloseAnswer.TheVariants as close
 use Rattle.judging.specs.declared.judge.Judged.{Judged}
 use Rattle.judging.specs.declared.judge.Judged.TheVariants as judged
-use Rattle.http.specs.declared.errors.ErrorOf.{ErrorOf}
-use Rattle.http.specs.declared.errors.ErrorOf.TheVariants.{NoError, Is}
-use Rattle.http.specs.Errors.{truncated, no_semantics, short_frame, quarter_too_large, beyond_limit, malformed, http_error}
+use Rattle.http_messages.specs.declared.errors.ErrorOf.{ErrorOf}
+use Rattle.http_messages.specs.declared.errors.ErrorOf.TheVariants.{NoError, Is}
+use Rattle.http_messages.specs.Errors.{truncated, no_semantics, short_frame, quarter_too_large, beyond_limit, malformed, http_error}
 
 unfoldable pub close_error : CloseAnswer → ErrorOf
 close_error (close.Refused r) = NoError

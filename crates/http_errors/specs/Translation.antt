@@ -8,7 +8,7 @@ use Rattle.http_errors.specs.declared.translation.Action.{Action}
 use Rattle.http_errors.specs.declared.translation.Action.TheVariants.{None, Close, StreamError, ConnectionError}
 use Rattle.http_errors.specs.declared.translation.Translation.{Translation}
 use Rattle.http_errors.specs.declared.translation.Translation.TheVariants.{Refused, Becomes}
-use Rattle.http.specs.Errors.{Error, truncated, no_semantics, short_frame, quarter_too_large, beyond_limit, bad_setting, malformed}
+use Rattle.http_messages.specs.Errors.{Error, truncated, no_semantics, short_frame, quarter_too_large, beyond_limit, bad_setting, malformed}
 
 -- HTTP/1.1, HTTP/2 and HTTP/3, numbered 1, 2 and 3
 pub data Version : Type 0 where

@@ -3,7 +3,7 @@ ghost use Rattle.std.specs.Prelude.{◌≡◌};
 ghost use Rattle.http_errors.specs.Ties.{close_error, report_error, judged_error};
 
 use capsule::reader::CloseAnswer;
-use http::errors::{ErrorOf, HttpError};
+use http_messages::errors::{ErrorOf, HttpError};
 use judging::judge::Judged;
 use opening::Report;
 

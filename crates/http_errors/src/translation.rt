@@ -5,7 +5,7 @@ ghost use Rattle.http_errors.specs.Translation.{row_of, translated};
 use refusals::Refusal;
 
 // A code of HTTP/2 (RFC 9113, section 7) or HTTP/3 (RFC 9114, section 8.1; RFC 9297, section 5.2).
-#[derive(Drop)]
+#[derive(Clone, Copy)]
 pub struct ErrorCode(pub u64);
 
 impl ErrorCode {
@@ -23,7 +23,7 @@ impl ErrorCode {
     pub const H3_MESSAGE_ERROR: ErrorCode = ErrorCode(0x010e);
 }
 
-#[derive(Drop)]
+#[derive(Clone, Copy)]
 pub enum Action {
     // The error does not arise on this version.
     None,
@@ -33,7 +33,7 @@ pub enum Action {
     ConnectionError(ErrorCode),
 }
 
-#[derive(Drop)]
+#[derive(Clone, Copy)]
 pub enum Translation {
     Refused(Refusal),
     Becomes(Action),

@@ -12,7 +12,7 @@ use wire::units::Quarter;
 use wire::varint::{Varint, read_varint};
 
 // Document 01's eight rules, in their order: the quarter where one was read, the place of the stream's record where one was found.
-#[derive(Drop)]
+#[derive(Clone, Copy)]
 pub enum Judged {
     Refused(Refusal),
     ShortFrame,

@@ -1,3 +1,5 @@
+#![tactic(auto)]
+
 fn main() {
     list_program::run();
 }

@@ -1,4 +1,6 @@
 // The listing program (document 01, "Bench cases"): the capsules of a stream, one line each.
+#![tactic(auto)]
+
 ghost use Rattle.std.specs.Prelude.{◌≡◌, true, false, ◌+◌, ◌≤◌, ◌<◌, length};
 ghost use Rattle.capsule.specs.Calls.{lent};
 ghost use Rattle.text_lines.specs.Lines.{end_line, longest};
@@ -14,7 +16,7 @@ use text_lines::{LONGEST, Line};
 const LIMIT: u64 = 1200;
 
 // How far a listing has come.
-#[derive(Drop)]
+#[derive(Clone, Copy)]
 struct Progress {
     reader: Reader,
     // how many bytes the input block has, and how many of them are used up

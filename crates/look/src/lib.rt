@@ -1,4 +1,6 @@
 // A look at a reader: how far its stream has come. Nothing is changed.
+#![tactic(auto)]
+
 ghost use Rattle.std.specs.Prelude.{◌≡◌, true};
 ghost use Rattle.planning.specs.Plans.{is_makeable_phase};
 ghost use Rattle.look.specs.Looking.{buffer_of, stored_in, place_of, look_of};
@@ -9,7 +11,7 @@ use planning::Phase;
 use refusals::Refusal;
 
 // Which lent buffer the bytes of a value are stored in.
-#[derive(Drop)]
+#[derive(Clone, Copy)]
 pub enum Buffer {
     Neither,
     Gathering,
@@ -17,7 +19,7 @@ pub enum Buffer {
 }
 
 // Where the end of the stream stands.
-#[derive(Drop)]
+#[derive(Clone, Copy)]
 pub enum Place {
     // no byte of a capsule has come
     Between,
@@ -37,7 +39,7 @@ pub enum Place {
     },
 }
 
-#[derive(Drop)]
+#[derive(Clone, Copy)]
 pub struct Sight {
     // whether the reader is finished
     pub finished: bool,
@@ -46,7 +48,7 @@ pub struct Sight {
     pub place: Place,
 }
 
-#[derive(Drop)]
+#[derive(Clone, Copy)]
 pub enum Looked {
     Refused(Refusal),
     Seen(Sight),

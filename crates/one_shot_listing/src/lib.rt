@@ -1,4 +1,6 @@
 // The one-shot listing: how many complete capsules a buffer holds, and how it ends.
+#![tactic(auto)]
+
 ghost use Rattle.std.specs.Prelude.{◌≡◌, drop};
 ghost use Rattle.one_shot_listing.specs.Listing.{listing_of};
 ghost use Rattle.one_shot_listing.specs.Cycle.{onwards, Before, TypeRead, HeadRead};
@@ -6,13 +8,13 @@ ghost use Rattle.one_shot_listing.specs.Cycle.{onwards, Before, TypeRead, HeadRe
 use refusals::Refusal;
 use wire::varint::{Varint, read_varint};
 
-#[derive(Drop)]
+#[derive(Clone, Copy)]
 pub enum Ending {
     Clean,
     Truncated,
 }
 
-#[derive(Drop)]
+#[derive(Clone, Copy)]
 pub enum Listed {
     Refused(Refusal),
     // complete capsules, the bytes of their type and length fields, and how the buffer ends

@@ -2,9 +2,9 @@
 use Rattle.walks.proofs.Words.{◌≡◌, refl, sym, ap, ◌∙◌, ℕ, ◌≤◌, arith, Bool, true, false, cond, ◌&&◌, ◌||◌, leb, eqb, leb-true, le-leb, lt-leb, eq-eqb, ne_eqb}
 use Rattle.opening.proofs.Terms.{parted, Datagram, Address, Unknown, Opening, is_address_type, opted, kind_of}
 
-and_false : (b : Bool) → b && false ≡ false
-and_false true = refl
-and_false false = refl
+and-false : (b : Bool) → b && false ≡ false
+and-false true = refl
+and-false false = refl
 
 -- which types are address capsules', as the code asks it
 pub zero_type : (t : ℕ) → t ≡ 0 → false ≡ is_address_type t
@@ -43,7 +43,7 @@ module _ (op : Opening) (t : ℕ) where
   by_tests d a e f = λ i. cond (sym e i) Datagram (cond (sym f i) Address Unknown)
 
   pub kind_address : opted op && is_address_type t ≡ true → Address ≡ kind_of op t
-  kind_address e = by_tests false true (unfold datagram in let a = address_type e in let l = a.0 in let h = a.1 in rw (ne_eqb t 0 (λ z. omega arith), ne_eqb t 0xff37a5 (λ z. omega arith)) (and_false op.draft)) e
+  kind_address e = by_tests false true (unfold datagram in let a = address_type e in let l = a.0 in let h = a.1 in rw (ne_eqb t 0 (λ z. omega arith), ne_eqb t 0xff37a5 (λ z. omega arith)) (and-false op.draft)) e
 
   module _ (z : t ≡ 0 → ⊥) where
     pub kind_draft : op.draft ≡ true → t ≡ 0xff37a5 → Datagram ≡ kind_of op t

@@ -1,4 +1,6 @@
 // What opening a reader fixes, and what it makes of a capsule's type.
+#![tactic(auto)]
+
 ghost use Rattle.std.specs.Prelude.{◌≡◌, ◌&&◌};
 ghost use Rattle.addresses.specs.Addresses.{is_address_type};
 ghost use Rattle.opening.specs.Kinds.{opted, kind_of, extent_of, report_of, forwards, gathers, keeps, finishes};
@@ -6,13 +8,13 @@ ghost use Rattle.opening.specs.Lent.{lent_verdict};
 
 use refusals::Refusal;
 
-#[derive(Drop)]
+#[derive(Clone, Copy)]
 pub enum Role {
     Endpoint,
     Intermediary,
 }
 
-#[derive(Drop)]
+#[derive(Clone, Copy)]
 pub struct Opening {
     pub role: Role,
     // the longest DATAGRAM that is delivered
@@ -23,7 +25,7 @@ pub struct Opening {
     pub addresses: bool,
 }
 
-#[derive(Drop)]
+#[derive(Clone, Copy)]
 pub enum Kind {
     Datagram,
     Address,
@@ -31,7 +33,7 @@ pub enum Kind {
 }
 
 // What is said of a capsule that has ended: its length, and before it its type unless it is a DATAGRAM.
-#[derive(Drop)]
+#[derive(Clone, Copy)]
 pub enum Report {
     Delivered { length: u64 },
     Dropped { length: u64 },
@@ -42,7 +44,7 @@ pub enum Report {
 }
 
 // What stands before a call: its refusal, or none.
-#[derive(Drop)]
+#[derive(Clone, Copy)]
 pub enum Verdict {
     Accepted,
     Refused(Refusal),

@@ -1,5 +1,5 @@
 -- What a piece comes to before the value, and the short way through a header. Assumes nothing.
-use Rattle.walks.proofs.Words.{◌≡◌, refl, sym, ap, ◌∙◌, ℕ, ◌+◌, ◌-◌, ◌*◌, ◌%◌, ◌≤◌, ◌<◌, arith, Bool, true, false, leb, ltb, eqb, and_false, eq-eqb, ne_eqb, eqb-true, le-leb, lt-leb, lt-ltb, le-ltb, leb-true, ltb-true, ltb-false, List, [], ◌∷◌, length, get_or, take, drop, length-drop}
+use Rattle.walks.proofs.Words.{◌≡◌, refl, sym, ap, ◌∙◌, ℕ, ◌+◌, ◌-◌, ◌*◌, ◌%◌, ◌≤◌, ◌<◌, arith, Bool, true, false, leb, ltb, eqb, and-false, eq-eqb, ne_eqb, eqb-true, le-leb, lt-leb, lt-ltb, le-ltb, leb-true, ltb-true, ltb-false, List, [], ◌∷◌, length, get_or, take, drop, length-drop}
 use Rattle.planning.proofs.Terms.{Partial, Whole, Ends, num, num_from, read_varint, take_varint, front_one, front_whole, begins_whole, empty-is, Opening, Plan, Reached, Header, Long, Short, Stops, Value, extent_of, no_bytes, plan_value, plan_type, plan_by, Within, Reaches, short_header, first_header, None, Found, read_short, first_one, first_two, first-long, none_found, split, zero_one}
 use Rattle.planning.proofs.Planning.{length-ends, type_ends}
 
@@ -155,7 +155,7 @@ first_some part p h = rw (ne_eqb part.have 0 h)
 
 pub first_raw : (part : Partial) (p : List ℕ) → (part.raw ≡ 0 → ⊥) → Long ≡ first_header part p
 unfolding first_header
-first_raw part p z = rw (ne_eqb part.raw 0 z, and_false (eqb part.have 0))
+first_raw part p z = rw (ne_eqb part.raw 0 z, and-false (eqb part.have 0))
 
 pub first_reached : (op : Opening) (p : List ℕ) (part : Partial) → get_or p 2 0 < 256 → (at t n : ℕ) → first_header part p ≡ Short at t n
     → Reaches op p (Value at t n (extent_of op t n)) (plan_type op p part)

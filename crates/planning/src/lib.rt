@@ -1,4 +1,6 @@
 // Where a stream is in its capsule, and what a feeding is to do, found out before any byte is moved.
+#![tactic(auto)]
+
 ghost use Rattle.std.specs.Prelude.{◌≡◌, ◌-◌, ◌≤◌, length};
 ghost use Rattle.wire.specs.Partial.{partial};
 ghost use Rattle.planning.specs.declared.Phase.TheVariants.{InValue};
@@ -12,7 +14,7 @@ use wire::partial::{Partial, VarintTaken};
 use wire::varint::Varint;
 
 // How far the capsule at the end of the stream has come.
-#[derive(Drop)]
+#[derive(Clone, Copy)]
 pub enum Phase {
     // in its type
     InType(Partial),
@@ -23,13 +25,13 @@ pub enum Phase {
 }
 
 // What ended in a feeding.
-#[derive(Drop)]
+#[derive(Clone, Copy)]
 pub enum Ended {
     Nothing,
     Capsule(Report),
 }
 
-#[derive(Drop)]
+#[derive(Clone, Copy)]
 pub struct Plan {
     pub next: Phase,
     pub consumed: usize,
@@ -45,7 +47,7 @@ pub struct Plan {
 }
 
 // What a piece comes to before the value.
-#[derive(Drop)]
+#[derive(Clone, Copy)]
 pub enum Reached {
     // it ends there
     Stops(Plan),
@@ -59,7 +61,7 @@ pub enum Reached {
 }
 
 // What stands at the front of a piece: a header that is short and whole, with where its value starts, or any other bytes.
-#[derive(Drop)]
+#[derive(Clone, Copy)]
 pub enum Header {
     Long,
     Short { at: usize, ctype: u64, size: u64 },

@@ -12,7 +12,7 @@ use refusals::Refusal;
 // report: 0 no capsule ended, 1 delivered, 2 dropped, 3 skipped, 4 passed, 5 address capsule delivered, 6 malformed
 // error: the report's
 #[repr(C)]
-#[derive(Drop)]
+#[derive(Clone, Copy)]
 pub struct FedAnswer {
     pub refusal: u64,
     pub consumed: u64,
@@ -25,7 +25,7 @@ pub struct FedAnswer {
 
 // end: 1 clean, 2 truncated
 #[repr(C)]
-#[derive(Drop)]
+#[derive(Clone, Copy)]
 pub struct ClosedAnswer {
     pub refusal: u64,
     pub end: u64,

@@ -10,7 +10,7 @@ use reader_words::numbers::bit_of;
 // capsule_type: with fields 2 and 3; length, to_come, gathered and buffer: with field 3
 // buffer: 0 neither, 1 the gathering buffer, 2 the one for address capsules
 #[repr(C)]
-#[derive(Drop)]
+#[derive(Clone, Copy)]
 pub struct LookAnswer {
     pub refusal: u64,
     pub finished: u64,

@@ -12,7 +12,7 @@ use reader_words::words::{Loaded, load, store};
 use refusals::Refusal;
 
 #[repr(C)]
-#[derive(Drop)]
+#[derive(Clone, Copy)]
 pub struct OpeningNumbers {
     pub role: u64,
     pub datagram_limit: u64,

@@ -13,7 +13,7 @@ use reader_answers::reader::{FedAnswer, fed_report, fed_took};
 use reader_words::words::{Position, copied, opening_in, position_of};
 
 // What came of trying a short way.
-#[derive(Drop)]
+#[derive(Clone, Copy)]
 pub(crate) enum Tried {
     // nothing was changed
     Not,

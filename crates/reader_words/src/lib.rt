@@ -1,3 +1,5 @@
 // A reader kept in eight words.
+#![tactic(auto)]
+
 pub mod numbers;
 pub mod words;

@@ -13,13 +13,13 @@ use wire::partial::Partial;
 const MARK: u64 = 0x6d727a00;
 
 // What some words are the stored form of.
-#[derive(Drop)]
+#[derive(Clone, Copy)]
 pub enum LoadedPhase {
     Nothing,
     Is(Phase),
 }
 
-#[derive(Drop)]
+#[derive(Clone, Copy)]
 pub enum Loaded {
     Nothing,
     Is(Reader),
@@ -61,7 +61,7 @@ pub fn load(words: &[u64; 8]) -> Loaded
 
 // Where an open reader is, as far as a short way goes by it. One that opted in goes the general way: a test for it on the short
 // ways costs every reader time.
-#[derive(Drop)]
+#[derive(Clone, Copy)]
 pub enum Position {
     Other,
     Between,

@@ -1,7 +1,8 @@
 // Refusals, by their numbers in documents 01 and 02.
+#![tactic(auto)]
 
 // A refused call changed nothing. The number says why.
-#[derive(Drop)]
+#[derive(Clone, Copy)]
 pub struct Refusal(pub u8);
 
 impl Refusal {

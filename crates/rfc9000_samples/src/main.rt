@@ -1,4 +1,6 @@
 // Reads and writes the samples of RFC 9000, appendix A.1, and the borders of the four sizes.
+#![tactic(auto)]
+
 use show::{hex, number, word};
 use wire::varint::{Varint, Written};
 

@@ -1,4 +1,6 @@
 // Runs the starred bench cases on streams through the reader.
+#![tactic(auto)]
+
 use capsule::reader::{Fed, Opened, Reader};
 use opening::Role;
 use show::word;

@@ -1,4 +1,6 @@
 // Reads two streams in place, each cut in two at every byte: each cut gives the same reports.
+#![tactic(auto)]
+
 ghost use Rattle.std.specs.Prelude.{◌≡◌};
 ghost use Rattle.capsule.specs.Calls.{lent};
 ghost use Rattle.capsule.specs.Reader.{feeding, feed_of, closing, close_of};
@@ -11,7 +13,7 @@ use show::{number, word};
 use show_reader::{consumed, ending, feeding, refused};
 
 // A connection after a feeding and, of that, after a close, with both answers.
-#[derive(Drop)]
+#[derive(Clone, Copy)]
 struct Served {
     connection: Connection,
     answer: FeedAnswer,

@@ -1,2 +1,4 @@
 // Who may send to a stream.
+#![tactic(auto)]
+
 pub mod rights;

@@ -9,7 +9,7 @@ use stream_records::record::StreamRecord;
 use wire::units::{Quarter, QuarterOf, StreamId};
 
 // Whether a stream may be sent to.
-#[derive(Drop)]
+#[derive(Clone, Copy)]
 pub enum Sending {
     Refused(Refusal),
     To(Quarter),

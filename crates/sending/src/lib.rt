@@ -1,2 +1,4 @@
 // DATAGRAM capsules and QUIC DATAGRAM frames written.
+#![tactic(auto)]
+
 pub mod write;

@@ -1,9 +1,11 @@
 // The short forms of variable-length integers: one and two bytes (RFC 9000, section 16).
+#![tactic(auto)]
+
 ghost use Rattle.std.specs.Prelude.{◌≡◌};
 ghost use Rattle.short_forms.specs.Short.{read_short};
 
 // Whether a short form is whole at the front of some bytes.
-#[derive(Drop)]
+#[derive(Clone, Copy)]
 pub enum ShortForm {
     None,
     Found { value: u64, size: usize },

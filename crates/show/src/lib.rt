@@ -1,4 +1,6 @@
 // Words and numbers on standard output, for programs that are held to what they print.
+#![tactic(auto)]
+
 use libc::STDOUT_FILENO;
 
 pub fn word(text: &[u8]) {

@@ -1,4 +1,6 @@
 // What a reader answers, in words on standard output, for programs that are held to what they print.
+#![tactic(auto)]
+
 ghost use Rattle.std.specs.Prelude.{◌≡◌};
 ghost use Rattle.show_reader.specs.Consumed.{consumed_in};
 

@@ -13,7 +13,7 @@ use wire::varint::{Varint, read_varint};
 
 // quarter: with rules 2 to 8; place: with rules 5 to 8; start and length: with rule 8
 #[repr(C)]
-#[derive(Drop)]
+#[derive(Clone, Copy)]
 pub struct JudgedAnswer {
     pub refusal: u64,
     pub rule: u64,

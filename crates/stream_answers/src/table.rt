@@ -7,14 +7,14 @@ use reader_words::numbers::bit_of;
 use stream_records::answers::{SideClosed, Standing, StreamOpened};
 
 #[repr(C)]
-#[derive(Drop)]
+#[derive(Clone, Copy)]
 pub struct OpenedAnswer {
     pub refusal: u64,
     pub place: u64,
 }
 
 #[repr(C)]
-#[derive(Drop)]
+#[derive(Clone, Copy)]
 pub struct FoundAnswer {
     pub refusal: u64,
     pub place: u64,
@@ -22,7 +22,7 @@ pub struct FoundAnswer {
 
 // freed: 1 where the place became the blank
 #[repr(C)]
-#[derive(Drop)]
+#[derive(Clone, Copy)]
 pub struct SideClosedAnswer {
     pub refusal: u64,
     pub place: u64,

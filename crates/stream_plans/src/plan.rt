@@ -9,14 +9,14 @@ use stream_records::record::{Side, StreamRecord};
 use wire::units::{Quarter, QuarterOf, StreamId};
 
 // `kept` is stored at the place, and nowhere if the call is refused.
-#[derive(Drop)]
+#[derive(Clone, Copy)]
 pub struct OpeningPlan {
     pub answer: StreamOpened,
     pub place: usize,
     pub kept: StreamRecord,
 }
 
-#[derive(Drop)]
+#[derive(Clone, Copy)]
 pub struct ClosingPlan {
     pub answer: SideClosed,
     pub place: usize,

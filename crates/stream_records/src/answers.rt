@@ -3,41 +3,41 @@ use crate::record::StreamRecord;
 use refusals::Refusal;
 
 // The place that opening a stream takes.
-#[derive(Drop)]
+#[derive(Clone, Copy)]
 pub enum StreamOpened {
     Refused(Refusal),
     Opened(usize),
 }
 
 // The place of the stream, and whether it became the blank.
-#[derive(Drop)]
+#[derive(Clone, Copy)]
 pub enum SideClosed {
     Refused(Refusal),
     Closed { place: usize, freed: bool },
 }
 
 // The place of a stream.
-#[derive(Drop)]
+#[derive(Clone, Copy)]
 pub enum Standing {
     Refused(Refusal),
     At(usize),
 }
 
 // A place, if there is one.
-#[derive(Drop)]
+#[derive(Clone, Copy)]
 pub enum Found {
     Nothing,
     At(usize),
 }
 
 // What a good table has of a quarter.
-#[derive(Drop)]
+#[derive(Clone, Copy)]
 pub enum Entry {
     Absent,
     Present { place: usize, record: StreamRecord },
 }
 
-#[derive(Drop)]
+#[derive(Clone, Copy)]
 pub enum Lookup {
     BadTable,
     Good(Entry),

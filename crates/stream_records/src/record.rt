@@ -5,14 +5,14 @@ ghost use Rattle.stream_records.specs.Records.{is_used, receive_open, send_open,
 use wire::units::Quarter;
 
 #[repr(C)]
-#[derive(Drop)]
+#[derive(Clone, Copy)]
 pub struct StreamRecord {
     pub quarter: Quarter,
     // USED, RECEIVE, SEND and SEMANTICS; the other bits mean nothing
     pub flags: u64,
 }
 
-#[derive(Drop)]
+#[derive(Clone, Copy)]
 pub enum Side {
     Receive,
     Send,

@@ -8,7 +8,7 @@ use stream_records::record::StreamRecord;
 use wire::units::Quarter;
 
 // A place is a number here, and the number of all places says that there is none: an enum that goes round in a loop goes through memory.
-#[derive(Drop)]
+#[derive(Clone, Copy)]
 pub struct Survey {
     pub places: usize,
     pub bad: bool,

@@ -1,1 +1,2 @@
 // A quoted text as bytes: see specs/Text.antt.
+#![tactic(auto)]

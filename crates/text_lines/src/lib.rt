@@ -1,4 +1,6 @@
 // Reports and endings as lines of text (document 01, "Bench cases").
+#![tactic(auto)]
+
 mod decimal;
 mod writing;
 
@@ -11,7 +13,7 @@ use capsule::reader::CloseAnswer;
 use opening::Report;
 
 // What became of a line.
-#[derive(Drop)]
+#[derive(Clone, Copy)]
 pub enum Line {
     // its length
     Written { size: usize },

@@ -1,5 +1,7 @@
 // Varints as they were read before request 3, with tests of its own for the short forms: what bench/calls measures beside
 // `read_varint`. The long forms are read by `read_long`, which request 3 did not change in the machine code.
+#![tactic(auto)]
+
 ghost use Rattle.std.specs.Prelude.{◌≡◌};
 ghost use Rattle.wire.specs.Varint.{read_varint};
 ghost use Rattle.answers.specs.Varint.{varint_answer};

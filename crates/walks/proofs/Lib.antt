@@ -1,17 +1,2 @@
-pub mod Walk
 pub mod Words
-pub mod Meeting
-pub mod Plain
-pub mod Calling
-pub mod Calls
-pub mod Passing
-pub mod Lying
-pub mod Paired
-pub mod Lending
-pub mod Beside
-pub mod InPlace
-pub mod ByValue
-pub mod Home
-pub mod Shared
-pub mod Zeros
 pub mod Impossible

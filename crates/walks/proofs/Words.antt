@@ -9,7 +9,7 @@ pub use lib.ListN.{get_or-append as List·getD-append, get_or-eq_default as List
 pub use lib.Pow.{mod-pow-add, pow-add, pow-lt, pow_mono, pow_pos}
 pub use lib.Seq.{append_snoc, drop-append-add, drop-append-le, drop-append_seam, drop_at, drop-cons, drop-drop, drop-length, drop-nil, drop-paste, get_or_at, get_or-drop, get_or-set_other, get_or-set_same, get_or-take, length-sets, length-take-le, paste, paste-suc, paste-zero, set_at, set_comm, set-get_or, set_out, sets, sets-eq, split_at, take-add, take_all, take-append-add, take-append-le, take_at, take-length, take-nil, take-paste, take-suc, take-take}
 pub use lib.WfN.{lt-wf_rel as Nat·lt-wfRel}
-pub use mathlib.Core.Bool.{Bool, ◌&&◌, ◌||◌, and_assoc, and_false, and-true, cond, false, false≢true, not, or-false, or-true, true, true≢false}
+pub use mathlib.Core.Bool.{Bool, ◌&&◌, ◌||◌, and_assoc, and-false, and-true, cond, false, false≢true, not, or-false, or-true, true, true≢false}
 pub use mathlib.Core.List.{List, [], ◌++◌, ◌∷◌, append_assoc, append-nil, map, map-append, reverse, reverse-append, reverse-cons, reverse-reverse}
 pub use mathlib.Core.Logic.Iff.{and as Iff·and}
 pub use mathlib.Core.Logic.Iff.{rfl as Iff·rfl}

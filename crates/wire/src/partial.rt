@@ -6,14 +6,14 @@ ghost use Rattle.wire.specs.Varint.{value_of};
 
 use crate::varint::{Varint, read_varint, size_of, wide};
 
-#[derive(Drop)]
+#[derive(Clone, Copy)]
 pub struct Partial {
     pub have: u8,
     pub raw: u64,
 }
 
 // What comes of a partial varint by more bytes.
-#[derive(Drop)]
+#[derive(Clone, Copy)]
 pub enum VarintTaken {
     // no varint has this part
     Impossible,

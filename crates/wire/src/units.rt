@@ -4,20 +4,20 @@ ghost use Rattle.wire.specs.Units.{quarter_of, stream_of};
 
 use crate::varint::Varint;
 
-#[derive(Drop)]
+#[derive(Clone, Copy)]
 pub struct StreamId(pub u64);
 
 #[repr(C)]
-#[derive(Drop)]
+#[derive(Clone, Copy)]
 pub struct Quarter(pub u64);
 
-#[derive(Drop)]
+#[derive(Clone, Copy)]
 pub enum QuarterOf {
     NotRequestStream,
     Is(Quarter),
 }
 
-#[derive(Drop)]
+#[derive(Clone, Copy)]
 pub enum StreamOf {
     TooLarge,
     Is(StreamId),

@@ -10,7 +10,7 @@ use refusals::Refusal;
 use short_forms::{ShortForm, read_short};
 
 // What stands at the front of some bytes.
-#[derive(Drop)]
+#[derive(Clone, Copy)]
 pub enum Varint {
     Incomplete,
     Whole { value: u64, size: usize },
@@ -42,7 +42,7 @@ impl Varint {
     const ZERO_OF_8: u64 = 0xc000000000000000;
 }
 
-#[derive(Drop)]
+#[derive(Clone, Copy)]
 pub enum Written {
     Refused(Refusal),
     Wrote(usize),

@@ -1,4 +1,0 @@
-// What HTTP versions, messages and settings say about datagrams and capsules (RFC 9297).
-pub mod errors;
-pub mod messages;
-pub mod settings;
