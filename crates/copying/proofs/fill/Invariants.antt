@@ -1,0 +1,10 @@
+-- The invariant: a copy of the bytes passed; `turn0` of Laws does one turn.
+use Rattle.walks.proofs.Words.{arith, ℕ, ◌-◌, ◌≤◌, ◌≡◌, sym, ap, ◌∙◌, length, length-set, take, drop, List, le_antisymm, paste, paste-zero, get_or-drop}
+use Rattle.copying.proofs.Laws.{turn0, within, front, room}
+use Rattle.copying.proofs.fill.Given as goal
+
+abbrev pub invariant-loop-i : goal.invariant-loop-i
+invariant-loop-i l = (l.i ≤ l.n) × (l.block ≡ paste l.initial.block 0 (drop l.from l.src) l.i) × (length l.block ≡ 16384)
+
+abbrev pub decreases-loop-i : goal.decreases-loop-i
+decreases-loop-i l = l.n - l.i
