@@ -1,40 +1,40 @@
 -- Invariant: the entries left are good exactly if all are; the law `turn` of Judging does an entry, by what `entry_at` finds.
 -- the entry is judged by `good_entry` alone
-use Rattle.walks.proofs.Words.{◌≡◌, sym, ◌∙◌, refl, Bool, cond, ◌&&◌, false, true, ⊎_elim, ◌+◌, ◌-◌, ◌≤◌, arith, length, drop, rules, not-true, not-false}
+use Rattle.walks.proofs.Words.{eq-eqb, ne_eqb, ◌≡◌, sym, ◌∙◌, refl, Bool, cond, ◌&&◌, false, true, ⊎_elim, ◌+◌, ◌-◌, ◌≤◌, arith, length, drop, rules, not-true, not-false}
 use Rattle.addresses.proofs.Terms.{Entry, entries, entry_at, are_good, all_of, good_entry, asks, entry_in, Inside}
 use Rattle.addresses.specs.declared.Place.TheVariants as place
 use Rattle.addresses.proofs.Judging as J
 use Rattle.addresses.proofs.good_entries.Goals as goal
-use Rattle.addresses.proofs.good_entries.Goals.{In-Entry, Joined-else-asking, Start}
+use Rattle.addresses.proofs.good_entries.Goals.{In-Entry, Joined-else-asking}
 
-abbrev rule : Start → Entry → Bool
-rule s = cond s.args.asking asks good_entry
+abbrev rule : Bool → Entry → Bool
+rule asking = cond asking asks good_entry
 
 inside : (c : In-Entry) → Inside c.args.value.now c.loop-id.at (place.Entry c.in-Entry.id c.in-Entry.version c.in-Entry.address c.in-Entry.width)
 inside c = rw c.in-Entry.is at c.entry_at.ensures.inside
 
 turned : (c : In-Entry) (t : Bool) → let v = c.args.value.now in
-    rule (PLACE Start c) (entry_in v c.in-Entry.id c.in-Entry.version c.in-Entry.address c.in-Entry.width) ≡ t → t && are_good (all_of (rule (PLACE Start c))) (entries entry_at (drop (c.in-Entry.address + c.in-Entry.width + 1) v)) ≡ are_good (all_of (rule (PLACE Start c))) (entries entry_at v)
+    rule c.args.asking (entry_in v c.in-Entry.id c.in-Entry.version c.in-Entry.address c.in-Entry.width) ≡ t → t && are_good (all_of (rule c.args.asking)) (entries entry_at (drop (c.in-Entry.address + c.in-Entry.width + 1) v)) ≡ are_good (all_of (rule c.args.asking)) (entries entry_at v)
 turned c t h = let e = c.entry_at in
-    rw h at (rw c.in-Entry.is at (J.turn (rule (PLACE Start c)) c.args.value.now c.loop-id.at e.result e.ensures)) ∙ c.loop-id.invariant.1
+    rw h at (rw c.in-Entry.is at (J.turn (rule c.args.asking) c.args.value.now c.loop-id.at e.result e.ensures)) ∙ c.loop-id.invariant.1
 
 judged : (c : Joined-else-asking) → let v = c.args.value.now in
-    rule (PLACE Start c) (entry_in v c.in-Entry.id c.in-Entry.version c.in-Entry.address c.in-Entry.width) ≡ good_entry (entry_in v c.in-Entry.id c.in-Entry.version c.in-Entry.address c.in-Entry.width)
-judged c = elim c.else-asking.branch [ then-c.else-asking w ↦ J.asks_some c.args.asking c.args.value.now _ _ _ _ w.0.taken w.1.left | else-c.else-asking w ↦ rw w.left ]
+    rule c.args.asking (entry_in v c.in-Entry.id c.in-Entry.version c.in-Entry.address c.in-Entry.width) ≡ good_entry (entry_in v c.in-Entry.id c.in-Entry.version c.in-Entry.address c.in-Entry.width)
+judged c = ⊎_elim (λ w. J.asks_some c.args.asking c.args.value.now _ _ _ _ w.0 (ne_eqb _ _ w.1)) (λ w. rw w) c.else-asking.either
 
 pub loop-id-init : goal.loop-id-init
 loop-id-init c = (omega arith, refl)
 
 pub returns-in-End : goal.returns-in-End
 returns-in-End c = let e = c.entry_at in
-    rw c.in-End.is at (J.turn (rule (goal.at.returns-in-End c).Start) c.args.value.now c.loop-id.at e.result e.ensures) ∙ c.loop-id.invariant.1
+    rw c.in-End.is at (J.turn (rule c.args.asking) c.args.value.now c.loop-id.at e.result e.ensures) ∙ c.loop-id.invariant.1
 
 pub returns-in-Malformed : goal.returns-in-Malformed
 returns-in-Malformed c = let e = c.entry_at in
-    rw c.in-Malformed.is at (J.turn (rule (goal.at.returns-in-Malformed c).Start) c.args.value.now c.loop-id.at e.result e.ensures) ∙ c.loop-id.invariant.1
+    rw c.in-Malformed.is at (J.turn (rule c.args.asking) c.args.value.now c.loop-id.at e.result e.ensures) ∙ c.loop-id.invariant.1
 
 pub returns-then-id-eq0 : goal.returns-then-id-eq0
-returns-then-id-eq0 c = turned (goal.at.returns-then-id-eq0 c).In-Entry false (J.asks_none c.args.asking c.args.value.now _ _ _ _ c.if-asking.true c.if-id-eq0.true)
+returns-then-id-eq0 c = turned (goal.at.returns-then-id-eq0 c).In-Entry false (J.asks_none c.args.asking c.args.value.now _ _ _ _ c.if-asking.true (eq-eqb _ _ c.if-id-eq0.true))
 
 pub good_entry-requires : goal.good_entry-requires
 good_entry-requires c = let i = inside (goal.at.good_entry-requires c).In-Entry in (i.1, i.2, i.3)
