@@ -1,6 +1,5 @@
 -- The invariant: a copy of the bytes passed; `more` of Laws does one block.
-use Rattle.walks.proofs.Words.{arith, ℕ, ◌+◌, ◌-◌, ◌≤◌, ◌≡◌, refl, sym, ap, ◌∙◌, length, drop, List, le_antisymm, paste, paste-zero, drop-drop}
-use Rattle.copying.proofs.Laws.{more, room}
+use Rattle.walks.proofs.Words.{◌-◌, ◌≤◌, ◌≡◌, length, drop, paste}
 use Rattle.copying.proofs.blocks.Given as goal
 
 abbrev pub invariant-loop-i : goal.invariant-loop-i

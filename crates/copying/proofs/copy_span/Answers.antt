@@ -16,4 +16,4 @@ pub returns-then-dst-to-2 : goal.returns-then-dst-to-2
 returns-then-dst-to-2 c = target_short _ _ _ _ _ (omega arith) (omega arith)
 
 pub returns : goal.returns
-returns c = copies _ _ _ _ _ (omega arith) (omega arith) c.blocks-2.last.1.1.0 c.blocks-2.ensures
+returns c = copies _ _ _ _ _ (omega arith) (omega arith) _ c.blocks-2.ensures

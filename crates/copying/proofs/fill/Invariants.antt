@@ -1,6 +1,5 @@
 -- The invariant: a copy of the bytes passed; `turn0` of Laws does one turn.
-use Rattle.walks.proofs.Words.{arith, ℕ, ◌-◌, ◌≤◌, ◌≡◌, sym, ap, ◌∙◌, length, length-set, take, drop, List, le_antisymm, paste, paste-zero, get_or-drop}
-use Rattle.copying.proofs.Laws.{turn0, within, front, room}
+use Rattle.walks.proofs.Words.{◌-◌, ◌≤◌, ◌≡◌, length, drop, paste}
 use Rattle.copying.proofs.fill.Given as goal
 
 abbrev pub invariant-loop-i : goal.invariant-loop-i

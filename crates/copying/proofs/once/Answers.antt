@@ -4,4 +4,4 @@ use Rattle.copying.proofs.once.Goals as goal
 
 pub returns : goal.returns
 returns c =
-    c.spill.ensures ∙ ap (λ (q : List ℕ). take c.args.to c.args.dst.now ++ q ++ drop (c.args.to + c.args.n) c.args.dst.now) c.fill.ensures.0
+    c.spill.ensures ∙ ap (λ (q : List ℕ). take c.args.to c.args.dst.now ++ q ++ drop (c.args.to + c.args.n) c.args.dst.now) c.fill.ensures.block_after

@@ -1,5 +1,5 @@
 -- The invariant: a copy of the bytes passed; `turn` of Laws does one turn.
-use Rattle.walks.proofs.Words.{arith, ℕ, ◌-◌, ◌≤◌, ◌≡◌, refl, ap, ◌∙◌, length, length-set, le_antisymm, paste, paste-zero}
+use Rattle.walks.proofs.Words.{arith, ℕ, refl, ap, ◌∙◌, length-set, le_antisymm, paste, paste-zero}
 use Rattle.copying.proofs.Laws.{turn}
 use Rattle.copying.proofs.spill.Goals as goal
 

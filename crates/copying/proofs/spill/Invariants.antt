@@ -1,6 +1,5 @@
 -- The invariant: a copy of the bytes passed; `turn` of Laws does one turn.
-use Rattle.walks.proofs.Words.{arith, ℕ, ◌-◌, ◌≤◌, ◌≡◌, refl, ap, ◌∙◌, length, length-set, le_antisymm, paste, paste-zero}
-use Rattle.copying.proofs.Laws.{turn}
+use Rattle.walks.proofs.Words.{◌-◌, ◌≤◌, ◌≡◌, length, paste}
 use Rattle.copying.proofs.spill.Given as goal
 
 abbrev pub invariant-loop-i : goal.invariant-loop-i
