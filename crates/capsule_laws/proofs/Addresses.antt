@@ -108,15 +108,18 @@ addresses_too_short_exactly r p b = (refused_then r p b, then_refused r p b)
 -- ---- what is stored of which capsule
 
 pub keeps_exactly : KeepsExactly
-keeps_exactly op t n = (
-  λ e. (unfold keeps in only (kind_of op t) refl e),
-  λ h. (unfold keeps keeps_by longest_address_value in rw (kind_is op t h.0, le-leb n 1024 h.1)),
-)
+keeps_exactly op t n = (kept, keeps_so)
   where
     only : (k : Kind) → kind_of op t ≡ k → keeps_by k n ≡ true → IsAddress op t × (n ≤ 1024)
     only Datagram h f = unfold keeps_by in no_true f
     only Address h f = (is_address op t h, leb-true n 1024 (unfold keeps_by longest_address_value in f))
     only Unknown h f = unfold keeps_by in no_true f
+
+    kept : keeps op t n ≡ true → IsAddress op t × (n ≤ 1024)
+    kept e = unfold keeps in only (kind_of op t) refl e
+
+    keeps_so : IsAddress op t × (n ≤ 1024) → keeps op t n ≡ true
+    keeps_so h = unfold keeps keeps_by longest_address_value in rw (kind_is op t h.0, le-leb n 1024 h.1)
 
 -- by the tests of the kind
 pub by_tests : (op : Opening) (t : ℕ) (d a : Bool) → eqb t 0 || (op.draft && eqb t 0xff37a5) ≡ d → opted op && is_address_type t ≡ a → kind_of op t ≡ cond d Datagram (cond a Address Unknown)
@@ -140,15 +143,20 @@ datagram_test op t = (λ e. says (eqb t 0) refl e, holds)
         go false = both op.draft (eqb t 0xff37a5) h.0 (eq-eqb t 0xff37a5 h.1)
 
 pub gathers_exactly : GathersExactly
-gathers_exactly op t n = (
-  λ e. (unfold gathers in only (eqb t 0 || (op.draft && eqb t 0xff37a5)) (opted op && is_address_type t) refl refl e),
-  λ h. (unfold gathers gathers_by in rw (by_tests op t true (opted op && is_address_type t) ((datagram_test op t).1 h.0) refl, le-leb n op.limit h.1)),
-)
+gathers_exactly op t n = (gathered, gathers_so)
   where
     only : (d a : Bool) → eqb t 0 || (op.draft && eqb t 0xff37a5) ≡ d → opted op && is_address_type t ≡ a → gathers_by (kind_of op t) op.limit n ≡ true → IsDatagram op t × (n ≤ op.limit)
     only true a e f g = ((datagram_test op t).0 e, leb-true n op.limit (unfold gathers_by in rw (by_tests op t true a e f) at g))
     only false true e f g = no_true (unfold gathers_by in rw (by_tests op t false true e f) at g)
     only false false e f g = no_true (unfold gathers_by in rw (by_tests op t false false e f) at g)
+
+    gathered : gathers op t n ≡ true → IsDatagram op t × (n ≤ op.limit)
+    gathered e = unfold gathers in only (eqb t 0 || (op.draft && eqb t 0xff37a5)) (opted op && is_address_type t) refl refl e
+
+    gathers_so : IsDatagram op t × (n ≤ op.limit) → gathers op t n ≡ true
+    gathers_so h =
+        unfold gathers gathers_by in
+        rw (by_tests op t true (opted op && is_address_type t) ((datagram_test op t).1 h.0) refl, le-leb n op.limit h.1)
 
 -- ---- opening, and other types
 

@@ -115,9 +115,9 @@ pub record One (k : Book) (c : Call) : Type 0 where
   pub stays_open : Open (book_call k c).0
 
 module _ (k : Book) (p : List ℕ) (b : Lent) where
-  pub left_by : (v : Verdict) → verdict_of (of_book k) (length p) (length b.gathering) (length b.addresses) (length b.output) ≡ v → feed_of (of_book k) p b ≡ feed_by (of_book k) p b v
+  pub left_by_lem : (v : Verdict) → verdict_of (of_book k) (length p) (length b.gathering) (length b.addresses) (length b.output) ≡ v → feed_of (of_book k) p b ≡ feed_by (of_book k) p b v
   unfolding feed_of
-  left_by v e = rw e
+  left_by_lem v e = rw e
 
   pub book_by : (v : Verdict) → book_verdict k p b ≡ v → book_call k (feed p b) ≡ book_feed k p v
   unfolding book_call
@@ -129,7 +129,7 @@ module _ (k : Book) (p : List ℕ) (b : Lent) where
       by : (v : Verdict) → book_verdict k p b ≡ v
           → ◌≡◌ {A = Reader × Reply} ((feed_by (of_book k) p b v).reader, feed_reply (feed_by (of_book k) p b v).answer (feed_by (of_book k) p b v).buffers) (of_book (book_feed k p v).0, (book_feed k p v).1)
           → Open (book_feed k p v).0 → One k (feed p b)
-      by v e f g = record { same_answer = unfold reader_call in rw (left_by v (verdict_same k p b o ∙ e), book_by v e) f; stays_open = rw (book_by v e) g }
+      by v e f g = record { same_answer = unfold reader_call in rw (left_by_lem v (verdict_same k p b o ∙ e), book_by v e) f; stays_open = rw (book_by v e) g }
 
       go : (v : Verdict) → book_verdict k p b ≡ v → One k (feed p b)
       go (Refused r) v = by (Refused r) v (unfold feed_by feed_reply book_feed in refl) (unfold book_feed in o)
@@ -210,7 +210,7 @@ ready_feed k last p b o h r f = go (book_verdict k p b) refl
     go : (v : Verdict) → book_verdict k p b ≡ v → Ready (book_call k (feed p b)).0 (left_by (book_verdict k p b) last (feed_of (of_book k) p b).buffers)
     go (Refused why) v = rw (v, book_by k p b (Refused why) v) (unfold book_feed left_by in r)
     go Accepted v =
-        rw (v, book_by k p b Accepted v, left_by k p b Accepted (verdict_same k p b o ∙ v))
+        rw (v, book_by k p b Accepted v, left_by_lem k p b Accepted (verdict_same k p b o ∙ v))
         (unfold left_by feed_by in taken-stands k p b o h v (ready_lent k last b r (f v)))
 
 lent_well : (k : Book) (last : Option Lent) (cs : List Call) → Open k → AllBytes cs → Ready k last → HandedOn last k (of_book k) cs → LentWell k cs

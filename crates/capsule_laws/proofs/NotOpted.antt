@@ -244,15 +244,15 @@ module _ (op : Opening) (e : opted op ≡ false) where
   from_capsules_lem [] = refl
   from_capsules_lem (c ∷ cs) = rw (forwards-is op e c.ctype, from_capsules_lem cs)
 
-  from_tail : (r : List ℕ) (x : Stage) → from_tail op r x ≡ before.from_tail op r x
+  from_tail_lem : (r : List ℕ) (x : Stage) → from_tail op r x ≡ before.from_tail op r x
   unfolding from_tail before.from_tail
-  from_tail r in_type = refl
-  from_tail r (in_length t j) = rw (forwards-is op e t)
-  from_tail r (in_value t n j) = rw (forwards-is op e t)
+  from_tail_lem r in_type = refl
+  from_tail_lem r (in_length t j) = rw (forwards-is op e t)
+  from_tail_lem r (in_value t n j) = rw (forwards-is op e t)
 
   forwarded-is : (s : List ℕ) → forwarded op s ≡ before.forwarded op s
   unfolding forwarded before.forwarded from_parts before.from_parts
-  forwarded-is s = rw (not_opted_grammar op s e, from_capsules_lem (parts s).capsules, from_tail (parts s).tail (parts s).stage)
+  forwarded-is s = rw (not_opted_grammar op s e, from_capsules_lem (parts s).capsules, from_tail_lem (parts s).tail (parts s).stage)
 
   gained-is : (s t : List ℕ) → gained op s t ≡ before.gained op s t
   unfolding gained before.gained

@@ -195,10 +195,10 @@ whole_again op size f = elim f.answer [
 
 module _ (op : Opening) (p : List ℕ) (b : Lent) (c : get_or p 2 0 < 256) where
   -- either nothing was done, or what the feeding does
-  whole_by {ℓ} : {X : Type ℓ} → (whole_fed whole_as.Not b ≡ whole_of op p b → X)
+  whole_by_lem {ℓ} : {X : Type ℓ} → (whole_fed whole_as.Not b ≡ whole_of op p b → X)
       → (whole_again op (length p) (whole_of op p b) ≡ feed_of (fresh op) p b → ((whole_of op p b).answer ≡ whole_as.Not → ⊥) → X)
       → X
-  whole_by {X = X} nothing done = go (short_header p) refl (verdict_of (fresh op) (length p) (length b.gathering) (length b.addresses) (length b.output)) refl
+  whole_by_lem {X = X} nothing done = go (short_header p) refl (verdict_of (fresh op) (length p) (length b.gathering) (length b.addresses) (length b.output)) refl
     where
       go : (x : Header) → short_header p ≡ x → (v : Verdict) → verdict_of (fresh op) (length p) (length b.gathering) (length b.addresses) (length b.output) ≡ v → X
       go Long e v f = nothing (whole_long op p b e)
@@ -224,17 +224,17 @@ module _ (op : Opening) (p : List ℕ) (b : Lent) (c : get_or p 2 0 < 256) where
               (λ z. zero_one (cc (ap (λ (x : WholeFed). x.answer) taken ∙ z))))
 
   pub whole_not : (d : Lent) → whole_fed whole_as.Not d ≡ whole_of op p b → d ≡ b
-  whole_not d q = whole_by (λ n. ap (λ (x : WholeFed). x.buffers) (q ∙ sym n)) (λ a x. absurd (x (sym (ap (λ (y : WholeFed). y.answer) q))))
+  whole_not d q = whole_by_lem (λ n. ap (λ (x : WholeFed). x.buffers) (q ∙ sym n)) (λ a x. absurd (x (sym (ap (λ (y : WholeFed). y.answer) q))))
 
   pub whole-fed : (consumed written : ℕ) (report : Report) (d : Lent) → whole_fed (whole_as.Took consumed written report) d ≡ whole_of op p b
       → feeding (fresh op) (fed_as.Took consumed written (Capsule report)) d ≡ feed_of (fresh op) p b
   whole-fed consumed written report d q =
-      whole_by (λ n. zero_one (cc (ap (λ (x : WholeFed). x.answer) (q ∙ sym n)))) (λ a x. ap (whole_again op (length p)) q ∙ a)
+      whole_by_lem (λ n. zero_one (cc (ap (λ (x : WholeFed). x.answer) (q ∙ sym n)))) (λ a x. ap (whole_again op (length p)) q ∙ a)
 
   pub whole_cut_fed : (written t n left : ℕ) (d : Lent) → whole_fed (whole_as.Cut written t n left) d ≡ whole_of op p b
       → feeding (in_value op t n left) (fed_as.Took (length p) written Nothing) d ≡ feed_of (fresh op) p b
   whole_cut_fed written t n left d q =
-      whole_by (λ z. zero_one (cc (ap (λ (x : WholeFed). x.answer) (q ∙ sym z)))) (λ a x. ap (whole_again op (length p)) q ∙ a)
+      whole_by_lem (λ z. zero_one (cc (ap (λ (x : WholeFed). x.answer) (q ∙ sym z)))) (λ a x. ap (whole_again op (length p)) q ∙ a)
 
 -- ---- within a value
 
