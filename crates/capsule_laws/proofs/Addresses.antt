@@ -107,19 +107,26 @@ addresses_too_short_exactly r p b = (refused_then r p b, then_refused r p b)
 
 -- ---- what is stored of which capsule
 
+keeps_is : (op : Opening) (t n : ℕ) → keeps op t n ≡ keeps_by (kind_of op t) n
+unfolding keeps
+keeps_is op t n = refl
+
+gathers_is : (op : Opening) (t n : ℕ) → gathers op t n ≡ gathers_by (kind_of op t) op.limit n
+unfolding gathers
+gathers_is op t n = refl
+
+keeps_only : (op : Opening) (t n : ℕ) (k : Kind) → kind_of op t ≡ k → keeps_by k n ≡ true → IsAddress op t × (n ≤ 1024)
+unfolding keeps_by longest_address_value
+keeps_only op t n Datagram h f = no_true f
+keeps_only op t n Address h f = (is_address op t h, leb-true n 1024 f)
+keeps_only op t n Unknown h f = no_true f
+
+keeps_so : (op : Opening) (t n : ℕ) → IsAddress op t × (n ≤ 1024) → keeps op t n ≡ true
+unfolding keeps keeps_by longest_address_value
+keeps_so op t n h = rw (kind_is op t h.0, le-leb n 1024 h.1)
+
 pub keeps_exactly : KeepsExactly
-keeps_exactly op t n = (kept, keeps_so)
-  where
-    only : (k : Kind) → kind_of op t ≡ k → keeps_by k n ≡ true → IsAddress op t × (n ≤ 1024)
-    only Datagram h f = unfold keeps_by in no_true f
-    only Address h f = (is_address op t h, leb-true n 1024 (unfold keeps_by longest_address_value in f))
-    only Unknown h f = unfold keeps_by in no_true f
-
-    kept : keeps op t n ≡ true → IsAddress op t × (n ≤ 1024)
-    kept e = unfold keeps in only (kind_of op t) refl e
-
-    keeps_so : IsAddress op t × (n ≤ 1024) → keeps op t n ≡ true
-    keeps_so h = unfold keeps keeps_by longest_address_value in rw (kind_is op t h.0, le-leb n 1024 h.1)
+keeps_exactly op t n = (λ e. keeps_only op t n (kind_of op t) refl (sym (keeps_is op t n) ∙ e), keeps_so op t n)
 
 -- by the tests of the kind
 pub by_tests : (op : Opening) (t : ℕ) (d a : Bool) → eqb t 0 || (op.draft && eqb t 0xff37a5) ≡ d → opted op && is_address_type t ≡ a → kind_of op t ≡ cond d Datagram (cond a Address Unknown)
@@ -142,21 +149,20 @@ datagram_test op t = (λ e. says (eqb t 0) refl e, holds)
         go true = refl
         go false = both op.draft (eqb t 0xff37a5) h.0 (eq-eqb t 0xff37a5 h.1)
 
+gathers_only : (op : Opening) (t n : ℕ) (d a : Bool) → eqb t 0 || (op.draft && eqb t 0xff37a5) ≡ d → opted op && is_address_type t ≡ a
+    → gathers_by (kind_of op t) op.limit n ≡ true → IsDatagram op t × (n ≤ op.limit)
+unfolding gathers_by
+gathers_only op t n true a e f g = ((datagram_test op t).0 e, leb-true n op.limit (rw (by_tests op t true a e f) at g))
+gathers_only op t n false true e f g = no_true (rw (by_tests op t false true e f) at g)
+gathers_only op t n false false e f g = no_true (rw (by_tests op t false false e f) at g)
+
+gathers_so : (op : Opening) (t n : ℕ) → IsDatagram op t × (n ≤ op.limit) → gathers op t n ≡ true
+unfolding gathers gathers_by
+gathers_so op t n h = rw (by_tests op t true (opted op && is_address_type t) ((datagram_test op t).1 h.0) refl, le-leb n op.limit h.1)
+
 pub gathers_exactly : GathersExactly
-gathers_exactly op t n = (gathered, gathers_so)
-  where
-    only : (d a : Bool) → eqb t 0 || (op.draft && eqb t 0xff37a5) ≡ d → opted op && is_address_type t ≡ a → gathers_by (kind_of op t) op.limit n ≡ true → IsDatagram op t × (n ≤ op.limit)
-    only true a e f g = ((datagram_test op t).0 e, leb-true n op.limit (unfold gathers_by in rw (by_tests op t true a e f) at g))
-    only false true e f g = no_true (unfold gathers_by in rw (by_tests op t false true e f) at g)
-    only false false e f g = no_true (unfold gathers_by in rw (by_tests op t false false e f) at g)
-
-    gathered : gathers op t n ≡ true → IsDatagram op t × (n ≤ op.limit)
-    gathered e = unfold gathers in only (eqb t 0 || (op.draft && eqb t 0xff37a5)) (opted op && is_address_type t) refl refl e
-
-    gathers_so : IsDatagram op t × (n ≤ op.limit) → gathers op t n ≡ true
-    gathers_so h =
-        unfold gathers gathers_by in
-        rw (by_tests op t true (opted op && is_address_type t) ((datagram_test op t).1 h.0) refl, le-leb n op.limit h.1)
+gathers_exactly op t n =
+    (λ e. gathers_only op t n (eqb t 0 || (op.draft && eqb t 0xff37a5)) (opted op && is_address_type t) refl refl (sym (gathers_is op t n) ∙ e), gathers_so op t n)
 
 -- ---- opening, and other types
 
