@@ -13,7 +13,7 @@ pub put_number-requires : goal.put_number-requires
 put_number-requires c =     (c.size_of-first.ensures.0, omega (arith, c.has_room.ensures.0 c.if-has_room.true, c.put_text.auto.out))
 
 pub overflow_add-at-then-has_room : goal.overflow_add-at-then-has_room
-overflow_add-at-then-has_room c =     omega (arith, c.has_room.ensures.0 c.if-has_room.true, (goal.at.overflow_add-at-then-has_room c).Start)
+overflow_add-at-then-has_room c =     omega (arith, c.has_room.ensures.0 c.if-has_room.true, c.put_text.auto.out)
 
 pub put_number-requires-then-has_room : goal.put_number-requires-then-has_room
 put_number-requires-then-has_room c =     (c.size_of-second.ensures.0, omega (arith, c.has_room.ensures.0 c.if-has_room.true, c.put_text.auto.out, c.put_number.auto.out))
