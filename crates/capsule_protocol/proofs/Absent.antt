@@ -1,7 +1,7 @@
 -- Which values are absent. Assumes nothing.
 use Rattle.walks.proofs.Words.{◌≡◌, refl, sym, ap, ◌∙◌, Bool, true, false, cond, false≢true, and-true, and-false, ℕ, List, [], ◌∷◌, ◌++◌, append_assoc, append-nil, eqb-true, ◌⊎◌, inl, inr, ⊎_elim}
 use mathlib.Core.Bool.{and-eq-true_iff}
-use Rattle.capsule_protocol.proofs.Terms.{Rule, empty, one, every, up_to, ◌then◌, ◌thenMany◌, is, is_space, is_lower, is_alpha, is_digit, is_key_start, is_key_byte, is_token_start, is_token_byte, is_bit, sf_integer, sf_decimal, chr, sf_string, sf_token, sf_binary, sf_boolean, bare_item, key, parameters, sf_item, in_use, Stage, Reading, Front, Question, Item, Trailing, Semicolon, Key, Equals, Number, Fraction, Text, Escape, Token, Binary, Boolean, Wrong, at, at_if, within, after_item, after_digits, next_at, next_of, rest_of, rest_at, up_to_after, reading, may_end, In, is_blank, OtherItemsAbsent, ListsAbsent, InnerListsAbsent, OnlyItemsInUse}
+use Rattle.capsule_protocol.proofs.Terms.{Rule, empty, one, every, up_to, ◌then◌, ◌then_many◌, is, is_space, is_lower, is_alpha, is_digit, is_key_start, is_key_byte, is_token_start, is_token_byte, is_bit, sf_integer, sf_decimal, chr, sf_string, sf_token, sf_binary, sf_boolean, bare_item, key, parameters, sf_item, in_use, Stage, Reading, Front, Question, Item, Trailing, Semicolon, Key, Equals, Number, Fraction, Text, Escape, Token, Binary, Boolean, Wrong, at, at_if, within, after_item, after_digits, next_at, next_of, rest_of, rest_at, up_to_after, reading, may_end, In, is_blank, OtherItemsAbsent, ListsAbsent, InnerListsAbsent, OnlyItemsInUse}
 use Rattle.capsule_protocol.proofs.Firsts.{bare_item_first}
 use Rattle.capsule_protocol.proofs.Steps.{Spaces, digits-end}
 use Rattle.capsule_protocol.proofs.Exactly.{or_cases, one_exactly, then_exactly, then_so}
@@ -82,7 +82,7 @@ pub record Ended (r : Reading) : Type 0 where
   pub tab : next_of r 0x09 ≡ at Wrong
 
 ended : (r : Reading) → rest_of empty r [] ≡ true → Ended r
-unfolding rest_at next_at at_if after_item after_digits ◌then◌ ◌thenMany◌ empty one every up_to parameters key bare_item sf_integer sf_decimal sf_string sf_token sf_binary sf_boolean chr is_key_byte is_key_start is_token_byte is_token_start is_alpha is_lower is_digit
+unfolding rest_at next_at at_if after_item after_digits ◌then◌ ◌then_many◌ empty one every up_to parameters key bare_item sf_integer sf_decimal sf_string sf_token sf_binary sf_boolean chr is_key_byte is_key_start is_token_byte is_token_start is_alpha is_lower is_digit
 ended r h = go r.stage r.digits h
   where
     wrong : {X : Type 0} → false ≡ true → X

@@ -2,7 +2,7 @@
 use Rattle.walks.proofs.Words.{◌≡◌, refl, sym, ap, subst, ◌∙◌, Bool, true, false, ◌&&◌, ◌||◌, false≢true, or-true, ℕ, zero, suc, ◌<◌, arith, List, [], ◌∷◌, ◌++◌, length, get_or, leb-true, le-leb, leb, eqb-true}
 use mathlib.Core.Bool.{and-eq-true_iff}
 use Rattle.capsule_protocol.proofs.Joining.{many-first, many-after}
-use Rattle.capsule_protocol.proofs.Terms.{Rule, Class, empty, one, every, up_to, ◌then◌, ◌thenMany◌, many, is_space, spaces, In, EmptyExactly, OneExactly, EveryExactly, UpToExactly, ThenExactly, joined, AllIn, ManyExactly}
+use Rattle.capsule_protocol.proofs.Terms.{Rule, Class, empty, one, every, up_to, ◌then◌, ◌then_many◌, many, is_space, spaces, In, EmptyExactly, OneExactly, EveryExactly, UpToExactly, ThenExactly, joined, AllIn, ManyExactly}
 
 -- a test and another, both
 pub both : (a b : Bool) → a ≡ true → b ≡ true → a && b ≡ true
@@ -94,7 +94,7 @@ then_exactly x y s = (then_only x y s, λ h. subst (In (x then y)) (sym h.2) (th
 -- ---- any number
 
 many_only : (y x : Rule) (s : List ℕ) → In (y then_many x) s → (t : List ℕ) × (l : List (List ℕ)) × (s ≡ t ++ joined l) × In y t × AllIn x l
-unfolding ◌thenMany◌
+unfolding ◌then_many◌
 many_only y x [] e = ([], [], refl, e, tt)
 many_only y x (b ∷ s) e =
     or_cases (y [] && ((λ t. x (b ∷ t)) then_many x) s) (((λ t. y (b ∷ t)) then_many x) s)
@@ -106,7 +106,7 @@ many_only y x (b ∷ s) e =
     e
 
 pub many_so : (x : Rule) (l : List (List ℕ)) → AllIn x l → In (many x) (joined l)
-unfolding ◌thenMany◌ empty
+unfolding ◌then_many◌ empty
 many_so x [] k = refl
 many_so x ([] ∷ l) k = many_so x l k.1
 many_so x ((b ∷ t) ∷ l) k =

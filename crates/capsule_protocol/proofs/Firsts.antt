@@ -1,7 +1,7 @@
 -- What the first byte of each part of an item decides. Assumes nothing.
 use Rattle.walks.proofs.Words.{◌≡◌, refl, ap, ◌∙◌, Bool, true, false, ◌&&◌, ◌||◌, and-false, and_assoc, ℕ, suc, ◌+◌, ◌<◌, arith, List, ◌∷◌, length, leb, lt-leb, add-suc, add-zero, suc-add, zero-add}
 use Rattle.capsule_protocol.proofs.Terms.{Rule, Class, one, every, up_to, ◌or◌, optional, ◌then◌, many, is, is_space, is_digit, is_key_start, is_key_byte, is_unescaped, is_escapable, is_token_start, is_token_byte, is_base64, is_bit, sf_integer, sf_decimal, chr, sf_string, sf_token, sf_binary, sf_boolean, bare_item, key, parameter, parameters, within, up_to_after}
-use Rattle.capsule_protocol.proofs.Joining.{front_same, back_same, then_none, then_if, then_or, then_optional, then_then, after_one, then_one, then_many}
+use Rattle.capsule_protocol.proofs.Joining.{front_same, back_same, then_none, then_if, then_or, then_optional, then_then, after_one, then_one, then_many_lem}
 
 -- ---- runs of bytes that are counted
 
@@ -129,7 +129,7 @@ pub string_next : (y : Rule) (b : ℕ) (s : List ℕ)
     → (many chr then one (is 0x22) then y) (b ∷ s)
     ≡ (is 0x22 b && y s) || ((is_unescaped b && (many chr then one (is 0x22) then y) s) || (is 0x5c b && (one is_escapable then many chr then one (is 0x22) then y) s))
 unfolding chr
-string_next y b s = then_many chr (one (is 0x22) then y) b s ∙ (λ i. then_one (is 0x22) y b s i || characters i)
+string_next y b s = then_many_lem chr (one (is 0x22) then y) b s ∙ (λ i. then_one (is 0x22) y b s i || characters i)
   where
     rest : Rule
     rest = many chr then one (is 0x22) then y
@@ -157,7 +157,7 @@ module _ (x : Rule) (b : ℕ) (s : List ℕ) where
       ≡ x (b ∷ s) || (is 0x3b b && (every is_space then key then optional (one (is 0x3d) then bare_item) then parameters then x) s)
   unfolding parameters parameter
   parameters-first =
-      then_many (one (is 0x3b) then every is_space then parameter) x b s
+      then_many_lem (one (is 0x3b) then every is_space then parameter) x b s
       ∙ ap (λ (r : Bool). x (b ∷ s) || r)
       (front_same (parameters then x) (λ t. then_one (is 0x3b) (every is_space then parameter) b t) s
       ∙ then_if (is 0x3b b) (every is_space then parameter) (parameters then x) s

@@ -101,13 +101,13 @@ pub character_exactly : CharacterExactly
 unfolding chr
 character_exactly s = (only, so)
   where
-    only : In chr s → (b : ℕ) × ((is_unescaped b ≡ true) × (s ≡ b ∷ [])) ⊎ ((is_escapable b ≡ true) × (s ≡ 0x5c ∷ b ∷ []))
+    only : In chr s → (b : ℕ) × (((is_unescaped b ≡ true) × (s ≡ b ∷ [])) ⊎ ((is_escapable b ≡ true) × (s ≡ 0x5c ∷ b ∷ [])))
     only e = ⊎_elim
         (λ f. let h = (one_exactly is_unescaped s).0 f in (h.0, inl (h.1, h.2)))
         (λ f. let h = (led 0x5c (one is_escapable) s).0 f in let b = (one_exactly is_escapable h.0).0 h.2 in (b.0, inr (b.1, h.1 ∙ ap (λ (t : List ℕ). 0x5c ∷ t) b.2)))
         ((or_exactly (one is_unescaped s) _).0 e)
 
-    so : ((b : ℕ) × ((is_unescaped b ≡ true) × (s ≡ b ∷ [])) ⊎ ((is_escapable b ≡ true) × (s ≡ 0x5c ∷ b ∷ []))) → In chr s
+    so : ((b : ℕ) × (((is_unescaped b ≡ true) × (s ≡ b ∷ [])) ⊎ ((is_escapable b ≡ true) × (s ≡ 0x5c ∷ b ∷ [])))) → In chr s
     so h = (or_exactly (one is_unescaped s) _).1 (⊎_elim
         (λ k. inl ((one_exactly is_unescaped s).1 (h.0, k.0, k.1)))
         (λ k. inr ((led 0x5c (one is_escapable) s).1 (h.0 ∷ [], k.1, (one_exactly is_escapable (h.0 ∷ [])).1 (h.0, k.0, refl))))

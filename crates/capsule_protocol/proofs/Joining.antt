@@ -1,6 +1,6 @@
 -- Rules one after the other: the first byte of what is joined. Assumes nothing.
 use Rattle.walks.proofs.Words.{◌≡◌, refl, sym, ap, ◌∙◌, Bool, true, false, ◌&&◌, ◌||◌, or-false, and-true, ℕ, List, [], ◌∷◌}
-use Rattle.capsule_protocol.proofs.Terms.{Rule, Class, empty, one, every, ◌or◌, optional, ◌then◌, ◌thenMany◌, many}
+use Rattle.capsule_protocol.proofs.Terms.{Rule, Class, empty, one, every, ◌or◌, optional, ◌then◌, ◌then_many◌, many}
 
 -- ---- tests joined
 
@@ -97,23 +97,23 @@ module _ (p : Class) (y : Rule) (b : ℕ) (s : List ℕ) where
 -- ---- repetitions
 
 many_none : (x : Rule) (s : List ℕ) → ((λ t. false) then_many x) s ≡ false
-unfolding ◌thenMany◌
+unfolding ◌then_many◌
 many_none x [] = refl
 many_none x (b ∷ s) = many_none x s
 
 pub many-first : (x : Rule) (b : ℕ) (s : List ℕ) → many x (b ∷ s) ≡ ((λ t. x (b ∷ t)) then_many x) s
-unfolding ◌thenMany◌ empty
+unfolding ◌then_many◌ empty
 many-first x b s = rw (many_none x s) (or-false _)
 
 pub many-after : (x y : Rule) (s : List ℕ) → (x then_many y) s ≡ (x then many y) s
-unfolding ◌thenMany◌ ◌then◌ empty
+unfolding ◌then_many◌ ◌then◌ empty
 many-after x y [] = sym (and-true (x []))
 many-after x y (b ∷ s) =
     ap (λ (r : Bool). (x [] && ((λ t. y (b ∷ t)) then_many y) s) || r) (many-after (λ t. x (b ∷ t)) y s)
     ∙ ap (λ (r : Bool). (x [] && r) || ((λ t. x (b ∷ t)) then many y) s) (sym (many-first y b s))
 
-pub then_many : (x y : Rule) (b : ℕ) (s : List ℕ) → (many x then y) (b ∷ s) ≡ y (b ∷ s) || ((λ t. x (b ∷ t)) then many x then y) s
-unfolding ◌then◌ ◌thenMany◌ empty
-then_many x y b s =
+pub then_many_lem : (x y : Rule) (b : ℕ) (s : List ℕ) → (many x then y) (b ∷ s) ≡ y (b ∷ s) || ((λ t. x (b ∷ t)) then many x then y) s
+unfolding ◌then◌ ◌then_many◌ empty
+then_many_lem x y b s =
     ap (λ (r : Bool). y (b ∷ s) || r)
     (front_same y (λ t. many-first x b t ∙ many-after (λ u. x (b ∷ u)) x t) s ∙ then_then (λ t. x (b ∷ t)) (many x) y s)

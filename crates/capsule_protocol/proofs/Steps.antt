@@ -1,6 +1,6 @@
 -- One byte more: what the grammar asks for after it, stage by stage. Assumes nothing.
 use Rattle.walks.proofs.Words.{◌≡◌, refl, sym, ap, ◌∙◌, Bool, true, false, cond, ◌&&◌, ◌||◌, or-false, and-false, and-true, zero-add, false≢true, ℕ, suc, ◌<◌, ◌≤◌, arith, ◌+◌, add-one, List, [], ◌∷◌, length, get_or, drop, drop-cons, drop_of_length-le, eqb, leb, leb-true, lt-leb, ltb, eqb-true, ltb-false}
-use Rattle.capsule_protocol.proofs.Terms.{Rule, Class, empty, one, every, up_to, ◌then◌, ◌thenMany◌, is, is_space, is_lower, is_alpha, is_digit, is_key_start, is_key_byte, is_unescaped, is_escapable, is_token_start, is_token_byte, is_base64, is_bit, sf_integer, sf_decimal, chr, sf_string, sf_token, sf_binary, sf_boolean, bare_item, key, parameters, true_item, in_use, Stage, Reading, Front, Question, Item, Trailing, Semicolon, Key, Equals, Number, Fraction, Text, Escape, Token, Binary, Boolean, Wrong, at, at_if, within, one_more, after_item, after_digits, first_of_bare_item, next_at, rest_of, rest_at, up_to_after, next_of, may_end, may_end_at, Stays, SameRest}
+use Rattle.capsule_protocol.proofs.Terms.{Rule, Class, empty, one, every, up_to, ◌then◌, ◌then_many◌, is, is_space, is_lower, is_alpha, is_digit, is_key_start, is_key_byte, is_unescaped, is_escapable, is_token_start, is_token_byte, is_base64, is_bit, sf_integer, sf_decimal, chr, sf_string, sf_token, sf_binary, sf_boolean, bare_item, key, parameters, true_item, in_use, Stage, Reading, Front, Question, Item, Trailing, Semicolon, Key, Equals, Number, Fraction, Text, Escape, Token, Binary, Boolean, Wrong, at, at_if, within, one_more, after_item, after_digits, first_of_bare_item, next_at, rest_of, rest_at, up_to_after, next_of, may_end, may_end_at, Stays, SameRest}
 use Rattle.capsule_protocol.proofs.Joining.{front_same, back_same, then_then, then_one, then_every}
 use mathlib.Core.Bool.{and-eq-true_iff}
 use Rattle.capsule_protocol.proofs.Firsts.{none_came, then_up_to, too_many, bare_item_first, string_next, value-first, key-first, parameters-first}
@@ -206,7 +206,7 @@ unfolding ◌then◌ up_to_after every within
 digits-end most n y = rw zero-add
 
 pub spaces-end : (r : Reading) → rest_of (every is_space) r [] ≡ may_end r
-unfolding rest_at may_end_at ◌then◌ ◌thenMany◌ every one empty parameters key bare_item sf_integer sf_decimal sf_string sf_token sf_binary sf_boolean up_to chr
+unfolding rest_at may_end_at ◌then◌ ◌then_many◌ every one empty parameters key bare_item sf_integer sf_decimal sf_string sf_token sf_binary sf_boolean up_to chr
 spaces-end r = go r.stage r.digits
   where
     go : (stage : Stage) (n : ℕ) → rest_at (every is_space) stage n [] ≡ may_end_at stage n

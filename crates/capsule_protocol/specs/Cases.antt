@@ -105,7 +105,7 @@ pub record Kinds : Type 0 where
   -- upper case, and what is no first byte
   pub no_keys :
       Rejects key
-      (text "" ∷ text "A" ∷ text "a_b" ∷ text "1" ∷ text "_a" ∷ text "-a" ∷ text ".a" ∷ text "a b" ∷ text "a=" ∷ text "a:" ∷ text "a/" ∷ [])
+      (text "" ∷ text "A" ∷ text "aB" ∷ text "1" ∷ text "_a" ∷ text "-a" ∷ text ".a" ∷ text "a b" ∷ text "a=" ∷ text "a:" ∷ text "a/" ∷ [])
 
 -- ---- values, as document 02 and its readings have them
 abbrev pub values_in_use : List (List ℕ)
@@ -130,6 +130,6 @@ long_values = (0x3f ∷ 0x31 ∷ replicate 1022 0x20) ∷ (0x3f ∷ 0x31 ∷ rep
 pub record Cases : Type 0 where
   pub classes : Classes
   pub kinds : Kinds
-  pub in_use : Accepts in_use values_in_use
+  pub used : Accepts in_use values_in_use
   pub absent : Rejects in_use values_absent
   pub lengths : map field_of long_values ≡ InUse ∷ Refused field_too_long ∷ Absent ∷ Refused field_too_long ∷ []

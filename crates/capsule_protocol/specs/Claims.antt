@@ -1,5 +1,5 @@
 -- What holds of the definitions, at every byte string. Each claim is a type here, and is proved in the file given under its name in lower case
--- with dashes.
+-- with underscores.
 use Rattle.std.specs.Prelude.{◌≡◌, ◌↔◌, ◌⊎◌, ℕ, ◌+◌, ◌≤◌, ◌<◌, true, false, ◌||◌, List, [], ◌∷◌, ◌++◌, length, get_or, replicate}
 use Rattle.capsule_protocol.specs.Rules.{Rule, Class, empty, one, every, up_to, ◌then◌, many}
 use Rattle.refusals.specs.Numbers.{field_too_long}
@@ -62,7 +62,7 @@ abbrev pub DecimalExactly : Type 0
 DecimalExactly = (s : List ℕ) → In sf_decimal s ↔ ((d : List ℕ) × (f : List ℕ) × Signed s (d ++ (0x2e ∷ f)) × Digits 12 d × Digits 3 f)
 
 abbrev pub CharacterExactly : Type 0
-CharacterExactly = (s : List ℕ) → In chr s ↔ ((b : ℕ) × ((is_unescaped b ≡ true) × (s ≡ b ∷ [])) ⊎ ((is_escapable b ≡ true) × (s ≡ 0x5c ∷ b ∷ [])))
+CharacterExactly = (s : List ℕ) → In chr s ↔ ((b : ℕ) × (((is_unescaped b ≡ true) × (s ≡ b ∷ [])) ⊎ ((is_escapable b ≡ true) × (s ≡ 0x5c ∷ b ∷ []))))
 
 abbrev pub StringExactly : Type 0
 StringExactly = (s : List ℕ) → In sf_string s ↔ ((l : List (List ℕ)) × (s ≡ 0x22 ∷ (joined l ++ (0x22 ∷ []))) × AllIn chr l)

@@ -9,7 +9,7 @@ abbrev pub Class : Type 0
 Class = ℕ → Bool
 
 infixr 20 ◌then◌
-infixr 20 ◌thenMany◌
+infixr 20 ◌then_many◌
 infixr 10 ◌or◌
 -- the empty string alone
 unfoldable pub empty : Rule
@@ -44,7 +44,7 @@ unfoldable pub ◌then◌ : Rule → Rule → Rule
 (x then y) (b ∷ s) = (x [] && y (b ∷ s)) || ((λ t. x (b ∷ t)) then y) s
 
 -- x and then any number of y: before each byte, x goes on, or it is whole and a y begins
-unfoldable pub ◌thenMany◌ : Rule → Rule → Rule
+unfoldable pub ◌then_many◌ : Rule → Rule → Rule
 (x then_many y) [] = x []
 (x then_many y) (b ∷ s) = (x [] && ((λ t. y (b ∷ t)) then_many y) s) || ((λ t. x (b ∷ t)) then_many y) s
 
