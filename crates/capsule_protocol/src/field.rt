@@ -21,6 +21,7 @@ impl FieldValue {
 }
 
 // Whether the value says that the Capsule Protocol is in use.
+#[tactic(auto, unfolding(crate::specs::Field::field_of))]
 pub fn read_field(value: &[u8]) -> FieldValue
     ensures { result ≡ field_of value.now }
 {
@@ -37,6 +38,7 @@ pub fn read_field(value: &[u8]) -> FieldValue
 }
 
 // `?1` alone, without spaces and parameters.
+#[tactic(auto, using(crate::proofs::Values::plain))]
 fn is_plain(value: &[u8]) -> bool
     ensures { result ≡ true → in_use value.now ≡ true }
 {
@@ -48,6 +50,7 @@ fn is_plain(value: &[u8]) -> bool
 
 // Byte by byte: what has been read so far is a stage of the grammar and a count of digits. Within a key or a value, where the
 // stage stays, a short loop passes over the bytes.
+#[tactic(auto, using(crate::proofs::Steps::from_front, crate::proofs::Steps::next_from, crate::proofs::Steps::ends_from, crate::proofs::Steps::wrong_from))]
 fn in_use(value: &[u8]) -> bool
     ensures { result ≡ in_use value.now }
 {
@@ -77,6 +80,7 @@ fn onward(value: &[u8], at: usize, reading: Reading) -> usize
 }
 
 // The place of the first byte from `at` on that may change the stage.
+#[tactic(auto, using(crate::proofs::Steps::stays_from))]
 fn skip(value: &[u8], at: usize, reading: Reading) -> usize
     requires { at ≤ length value.now }
     ensures { (at ≤ result) × (result ≤ length value.now) × SameRest reading value.now at result }

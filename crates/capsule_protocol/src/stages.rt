@@ -62,6 +62,7 @@ impl Reading {
     const FRACTION: u8 = 3;
 
     // What has been read with one more byte.
+    #[tactic(auto, unfolding(crate::specs::Stages::next_at))]
     pub(crate) fn next(self, b: u8) -> Reading
         ensures { result ≡ next_of self b }
     {
@@ -101,6 +102,7 @@ impl Reading {
     }
 
     // Whether the stage stays with this byte.
+    #[tactic(auto, using(crate::proofs::Steps::key_stays, crate::proofs::Steps::string_stays, crate::proofs::Steps::token_stays, crate::proofs::Steps::binary_stays, crate::proofs::Steps::trailing_stays, crate::proofs::Steps::front_stays))]
     pub(crate) fn stays(self, b: u8) -> bool
         ensures { result ≡ true → Stays self b }
     {
@@ -117,6 +119,7 @@ impl Reading {
     }
 
     // Whether a value that ends here is in use.
+    #[tactic(auto, unfolding(crate::specs::Stages::may_end_at))]
     pub(crate) fn may_end(self) -> bool
         ensures { result ≡ may_end self }
     {
@@ -141,6 +144,7 @@ impl Reading {
     }
 }
 
+#[tactic(auto, unfolding(crate::specs::Stages::next_at))]
 fn in_front(b: u8) -> Reading
     ensures { result ≡ next_at Front 0 b }
 {
@@ -150,6 +154,7 @@ fn in_front(b: u8) -> Reading
     at_if(b == b'?', Stage::Question)
 }
 
+#[tactic(auto, unfolding(crate::specs::Stages::next_at))]
 fn after_semicolon(b: u8) -> Reading
     ensures { result ≡ next_at Semicolon 0 b }
 {
@@ -159,6 +164,7 @@ fn after_semicolon(b: u8) -> Reading
     at_if(is_key_start(b), Stage::Key)
 }
 
+#[tactic(auto, unfolding(crate::specs::Stages::next_at))]
 fn in_key(b: u8) -> Reading
     ensures { result ≡ next_at Key 0 b }
 {
@@ -172,6 +178,7 @@ fn in_key(b: u8) -> Reading
 }
 
 // After `=`: the first byte tells the kind of a bare item.
+#[tactic(auto, unfolding(crate::specs::Stages::first_of_bare_item))]
 fn first_of_bare_item(b: u8) -> Reading
     ensures { result ≡ first_of_bare_item b }
 {
@@ -196,6 +203,7 @@ fn first_of_bare_item(b: u8) -> Reading
     at_if(is_token_start(b), Stage::Token)
 }
 
+#[tactic(auto, unfolding(crate::specs::Stages::next_at))]
 fn in_number(b: u8, digits: u8) -> Reading
     ensures { result ≡ next_at Number digits b }
 {
@@ -208,6 +216,7 @@ fn in_number(b: u8, digits: u8) -> Reading
     after_digits(b, digits, Reading::INTEGER)
 }
 
+#[tactic(auto, unfolding(crate::specs::Stages::next_at))]
 fn in_fraction(b: u8, digits: u8) -> Reading
     ensures { result ≡ next_at Fraction digits b }
 {
@@ -217,6 +226,7 @@ fn in_fraction(b: u8, digits: u8) -> Reading
     after_digits(b, digits, Reading::FRACTION)
 }
 
+#[tactic(auto, unfolding(crate::specs::Stages::next_at))]
 fn in_string(b: u8) -> Reading
     ensures { result ≡ next_at Text 0 b }
 {
@@ -229,6 +239,7 @@ fn in_string(b: u8) -> Reading
     at_if(is_unescaped(b), Stage::Text)
 }
 
+#[tactic(auto, unfolding(crate::specs::Stages::next_at))]
 fn in_token(b: u8) -> Reading
     ensures { result ≡ next_at Token 0 b }
 {
@@ -238,6 +249,7 @@ fn in_token(b: u8) -> Reading
     after_item(b)
 }
 
+#[tactic(auto, unfolding(crate::specs::Stages::next_at))]
 fn in_binary(b: u8) -> Reading
     ensures { result ≡ next_at Binary 0 b }
 {
@@ -248,6 +260,7 @@ fn in_binary(b: u8) -> Reading
 }
 
 // After an item or a parameter: `;`, or spaces up to the end.
+#[tactic(auto, unfolding(crate::specs::Stages::after_item))]
 fn after_item(b: u8) -> Reading
     ensures { result ≡ after_item b }
 {
@@ -258,6 +271,7 @@ fn after_item(b: u8) -> Reading
 }
 
 // The same after the digits of a number.
+#[tactic(auto, unfolding(crate::specs::Stages::after_digits))]
 fn after_digits(b: u8, digits: u8, most: u8) -> Reading
     ensures { result ≡ after_digits b digits most }
 {
@@ -267,6 +281,7 @@ fn after_digits(b: u8, digits: u8, most: u8) -> Reading
     at(Stage::Wrong)
 }
 
+#[tactic(auto, unfolding(crate::specs::Stages::one_more))]
 fn one_more(stage: Stage, digits: u8, most: u8) -> Reading
     ensures { result ≡ one_more stage digits most }
 {
@@ -279,12 +294,14 @@ fn one_more(stage: Stage, digits: u8, most: u8) -> Reading
     at(Stage::Wrong)
 }
 
+#[tactic(auto, unfolding(crate::specs::Stages::within))]
 fn within(digits: u8, most: u8) -> bool
     ensures { result ≡ within digits most }
 {
     (1 <= digits) & (digits <= most)
 }
 
+#[tactic(auto, unfolding(crate::specs::Stages::at_if))]
 fn at_if(fits: bool, stage: Stage) -> Reading
     ensures { result ≡ at_if fits stage }
 {

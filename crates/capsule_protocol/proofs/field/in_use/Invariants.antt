@@ -1,7 +1,6 @@
 -- The loop's invariant: what the grammar still asks for decides the whole value (`next_from` of Steps). At the end `ends_from` decides.
-use Rattle.walks.proofs.Words.{◌≡◌, sym, ◌∙◌, ◌≤◌, ◌-◌, arith, rules, length, drop}
+use Rattle.walks.proofs.Words.{◌≡◌, ◌≤◌, ◌-◌, length, drop}
 use Rattle.capsule_protocol.proofs.Terms.{every, is_space, rest_of, in_use}
-use Rattle.capsule_protocol.proofs.Steps.{from_front, next_from, ends_from, wrong_from}
 use Rattle.capsule_protocol.proofs.field.in_use.Given as goal
 
 abbrev pub invariant-loop-at : goal.invariant-loop-at

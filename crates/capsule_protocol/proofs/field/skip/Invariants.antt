@@ -1,7 +1,6 @@
 -- The loop's invariant: the bytes that were passed left the stage as it was.
-use Rattle.walks.proofs.Words.{refl, ◌∙◌, ◌≤◌, ◌-◌, arith, rules, not-false, length}
+use Rattle.walks.proofs.Words.{◌≤◌, ◌-◌, length}
 use Rattle.capsule_protocol.proofs.Terms.{SameRest}
-use Rattle.capsule_protocol.proofs.Steps.{stays_from}
 use Rattle.capsule_protocol.proofs.field.skip.Given as goal
 
 abbrev pub invariant-loop-end : goal.invariant-loop-end
