@@ -41,7 +41,7 @@ pub fn list(buffer: &[u8]) -> Listed
 
 // The reading goes round, type to length to value to the next type. A capsule starts at `start`; `capsules` and `headers` count what
 // stands before it.
-#[cycle(read_length_read_type_read_value)]
+#[cycle(listing)]
 fn read_type(s: &[u8], start: usize, capsules: usize, headers: usize) -> Listed
     requires { Before s.now start capsules headers }
     ensures { result ≡ onwards capsules headers (drop start s.now) }
@@ -66,7 +66,7 @@ fn read_type(s: &[u8], start: usize, capsules: usize, headers: usize) -> Listed
 }
 
 // Its type ends at `at`.
-#[cycle(read_length_read_type_read_value)]
+#[cycle(listing)]
 fn read_length(s: &[u8], start: usize, at: usize, capsules: usize, headers: usize) -> Listed
     requires { Before s.now start capsules headers × TypeRead s.now start at }
     ensures { result ≡ onwards capsules headers (drop start s.now) }
@@ -82,7 +82,7 @@ fn read_length(s: &[u8], start: usize, at: usize, capsules: usize, headers: usiz
 }
 
 // Its length ends at `at`, and says that so many value bytes follow.
-#[cycle(read_length_read_type_read_value)]
+#[cycle(listing)]
 fn read_value(
     s: &[u8],
     start: usize,

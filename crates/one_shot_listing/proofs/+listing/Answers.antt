@@ -1,0 +1,71 @@
+-- By what `read_varint` answers at each field: the laws of Rounds.
+use Rattle.walks.proofs.Words.{◌≡◌, refl, sym, ap, ◌∙◌, ℕ, List, arith, rules, ◌+◌, ◌≤◌, ◌<◌, length, drop}
+use Rattle.one_shot_listing.proofs.Terms.{Whole, read_varint, rest_of}
+use Rattle.one_shot_listing.proofs.Rounds.{field_within, type_within, head_within, at-end, in_type_lem, in_length_lem, in_value_lem, at_next}
+use Rattle.one_shot_listing.proofs.+listing.Goals as goal
+
+-- ---- a type
+
+pub read_type-returns-then-start-s : goal.read_type-returns-then-start-s
+read_type-returns-then-start-s t c = at-end c.args.s.now c.args.start c.requires.within c.args.capsules c.args.headers (omega arith)
+
+pub read_type-overflow_add-start : goal.read_type-overflow_add-start
+read_type-overflow_add-start t c =
+    omega (arith, field_within c.args.s.now c.args.start _ _ c.requires.within
+    (sym (c.read_varint.ensures ∙ ap read_varint (rest_of c.args.s.now c.args.start)) ∙ c.in-Whole.is))
+
+pub read_type-read_length-requires : goal.read_type-read_length-requires
+read_type-read_length-requires t c =
+    let whole : read_varint (drop c.args.start c.args.s.now) ≡ Whole c.in-Whole.value c.in-Whole.size =
+        sym (c.read_varint.ensures ∙ ap read_varint (rest_of c.args.s.now c.args.start)) ∙ c.in-Whole.is in (
+      omega (arith, field_within c.args.s.now c.args.start _ _ c.requires.within whole),
+      (c.requires, record { ctype = c.in-Whole.value; size = c.in-Whole.size; reads = whole; ends = refl }),
+    )
+
+pub read_type-returns-else-start-s : goal.read_type-returns-else-start-s
+read_type-returns-else-start-s t c =
+    in_type_lem c.args.s.now c.args.start c.requires.within c.args.capsules c.args.headers (omega arith)
+    (sym (c.read_varint.ensures ∙ ap read_varint (rest_of c.args.s.now c.args.start)) ∙ c.in-Incomplete.is)
+
+-- ---- a length
+
+pub read_length-slice_bounds-read_varint-count : goal.read_length-slice_bounds-read_varint-count
+read_length-slice_bounds-read_varint-count t c = omega (arith, type_within c.args.s.now c.args.start c.requires.0.within c.args.at c.requires.1)
+
+pub read_length-slice_bounds-read_varint-start : goal.read_length-slice_bounds-read_varint-start
+read_length-slice_bounds-read_varint-start t c = omega (arith, type_within c.args.s.now c.args.start c.requires.0.within c.args.at c.requires.1)
+
+pub read_length-overflow_add-at : goal.read_length-overflow_add-at
+read_length-overflow_add-at t c =
+    omega (arith, field_within c.args.s.now c.args.at _ _ (type_within c.args.s.now c.args.start c.requires.0.within c.args.at c.requires.1).1
+    (sym (c.read_varint.ensures ∙ ap read_varint (rest_of c.args.s.now c.args.at)) ∙ c.in-Whole.is))
+
+pub read_length-read_value-requires : goal.read_length-read_value-requires
+read_length-read_value-requires t c =
+    let whole : read_varint (drop c.args.at c.args.s.now) ≡ Whole c.in-Whole.value c.in-Whole.size =
+        sym (c.read_varint.ensures ∙ ap read_varint (rest_of c.args.s.now c.args.at)) ∙ c.in-Whole.is in (
+      omega (arith, field_within c.args.s.now c.args.at _ _ (type_within c.args.s.now c.args.start c.requires.0.within c.args.at c.requires.1).1 whole),
+      (c.requires.0, record { middle = c.args.at; type_read = c.requires.1; size = c.in-Whole.size; reads = whole; ends = refl }),
+    )
+
+pub read_length-returns-in-Incomplete : goal.read_length-returns-in-Incomplete
+read_length-returns-in-Incomplete t c =
+    in_length_lem c.args.s.now c.args.start c.requires.0.within c.args.capsules c.args.headers c.args.at c.requires.1
+    (sym (c.read_varint.ensures ∙ ap read_varint (rest_of c.args.s.now c.args.at)) ∙ c.in-Incomplete.is)
+
+-- ---- a value
+
+pub read_value-overflow_sub-room : goal.read_value-overflow_sub-room
+read_value-overflow_sub-room t c = omega (arith, head_within c.args.s.now c.args.start c.requires.0.within c.args.at c.args.length c.requires.1)
+
+pub read_value-returns-then-room-length : goal.read_value-returns-then-room-length
+read_value-returns-then-room-length t c =
+    in_value_lem c.args.s.now c.args.start c.requires.0.within c.args.capsules c.args.headers c.args.at c.args.length c.requires.1 (omega arith)
+
+pub read_value-read_type-requires : goal.read_value-read_type-requires
+read_value-read_type-requires t c = omega (arith, head_within c.args.s.now c.args.start c.requires.0.within c.args.at c.args.length c.requires.1)
+
+pub read_value-returns : goal.read_value-returns
+read_value-returns t c =
+    c.read_type.ensures
+    ∙ at_next c.args.s.now c.args.start c.requires.0.within c.args.capsules c.args.headers c.args.at c.args.length c.requires.1 (omega arith)
