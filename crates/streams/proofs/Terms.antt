@@ -8,6 +8,4 @@ unfoldable pub use Rattle.stream_survey.specs.{Code.fitting, Code.looked_free, C
 pub use Rattle.stream_records.proofs.{Places.first-is, Places.is_free, Places.lowest_first, Places.none_is}
 pub use Rattle.stream_records.specs.{Records.blank, Records.is_used, Tables.Table, Tables.sought, Words.UsedBelow, declared.answers.Found.Found, declared.answers.Found.TheVariants.At, declared.answers.Found.TheVariants.Nothing, declared.answers.Lookup.Lookup, declared.record.Side.Side, declared.record.StreamRecord.StreamRecord}
 unfoldable pub use Rattle.stream_records.specs.{Records.holds, Records.is_blank, Tables.closing_of, Tables.lookup_of, Tables.lowest_free, Tables.opening_of, Tables.standing_of, Tables.stands_in, Tables.table_closed, Tables.table_opened}
-pub use Rattle.walks.proofs.{Calling.Ensures, Calling.Fact, Calling.calls_ensuring, Calling.ends_with, Calling.ensuring, Calls.After, Calls.Call, Calls.ContractOf, Calls.answered, Calls.answered-lent, Calls.asked, Calls.calls_plain, Calls.calls_plain_last, Calls.given_data, Home.home, Home.lent_out, Meeting.by_walk, Passing.Fitting, Passing.OwedPassing, Passing.Param, Passing.changed, Passing.clears, Passing.datum, Passing.ends_owning, Passing.meets_passing, Passing.passing, Passing.shared, Passing.slots, Passing.takes_last, Passing.taking, Passing.values, Shared.lends-to-read, Shared.read-ends, Zeros.zeros-is, Zeros.zeros-length}
-unfoldable pub use Rattle.walks.proofs.{Zeros.zeros}
 pub use Rattle.wire.specs.{declared.units.Quarter.Quarter, declared.units.StreamId.StreamId}
