@@ -1,5 +1,5 @@
 -- `asked`, by what is read at the front of the frame. Assumes nothing.
-use Rattle.walks.proofs.Words.{sym, ◌∙◌, rules}
+use Rattle.walks.proofs.Words.{sym, ◌∙◌}
 use Rattle.judging.proofs.Terms.{asked_in}
 use Rattle.judging.proofs.judge.asked.Goals as goal
 

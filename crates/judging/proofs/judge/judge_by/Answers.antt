@@ -1,5 +1,5 @@
 -- `judge_by`, by what was looked up, the two limits and what is read at the front of the frame. Assumes nothing.
-use Rattle.walks.proofs.Words.{sym, ◌∙◌, le-leb, lt-leb, rules}
+use Rattle.walks.proofs.Words.{sym, ◌∙◌, le-leb, lt-leb}
 use Rattle.judging.proofs.Terms.{reads, judged_read_by, judged_by}
 use Rattle.judging.proofs.judge.judge_by.Goals as goal
 

@@ -1,6 +1,5 @@
 -- `judge_entry`, by whether there is a record. Assumes nothing.
 use Rattle.judging.proofs.Terms.{judged_entry}
-use Rattle.walks.proofs.Words.{rules}
 use Rattle.judging.proofs.judge.judge_entry.Goals as goal
 
 pub returns-in-Absent : goal.returns-in-Absent

@@ -1,5 +1,5 @@
 -- `judge_quarter`, by the two comparisons. Assumes nothing.
-use Rattle.walks.proofs.Words.{arith, le-leb, lt-leb, lt-ltb, le-ltb, rules}
+use Rattle.walks.proofs.Words.{arith, le-leb, lt-leb, lt-ltb, le-ltb}
 use Rattle.judging.proofs.Terms.{largest_quarter}
 use Rattle.judging.proofs.judge.judge_quarter.Goals as goal
 

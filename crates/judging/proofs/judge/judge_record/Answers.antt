@@ -1,5 +1,5 @@
 -- `judge_record`, by two flags and the limit. Assumes nothing.
-use Rattle.walks.proofs.Words.{sym, ◌∙◌, not-true, not-false, le-leb, lt-leb, rules}
+use Rattle.walks.proofs.Words.{sym, ◌∙◌, le-leb, lt-leb}
 use Rattle.judging.proofs.Terms.{judged_record}
 use Rattle.judging.proofs.judge.judge_record.Goals as goal
 

@@ -1,5 +1,5 @@
 -- `part`, by whether it is delivered: the quarter that was read lies inside the frame. Assumes nothing.
-use Rattle.walks.proofs.Words.{arith, sym, ◌∙◌, ◌≤◌, length, not-true, not-false, rules}
+use Rattle.walks.proofs.Words.{arith, sym, ◌∙◌, ◌≤◌, length}
 use Rattle.judging.proofs.Terms.{reads}
 use Rattle.judging.proofs.Deciding.{part_none, part_short, part_rest}
 use Rattle.judging.proofs.judge.part.Goals as goal

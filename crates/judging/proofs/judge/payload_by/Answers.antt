@@ -1,5 +1,5 @@
 -- `payload_by`: the part that `judge_by` delivers. Assumes nothing.
-use Rattle.walks.proofs.Words.{ap, ◌∙◌, rules}
+use Rattle.walks.proofs.Words.{ap, ◌∙◌}
 use Rattle.judging.proofs.Terms.{read_varint, Judged, if_delivered, after_quarter, payload_by}
 use Rattle.judging.proofs.judge.payload_by.Goals as goal
 

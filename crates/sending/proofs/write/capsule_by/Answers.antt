@@ -1,5 +1,5 @@
 -- `capsule_by`, by whether the stream may be sent to. Assumes nothing.
-use Rattle.walks.proofs.Words.{sym, ◌∙◌, rules}
+use Rattle.walks.proofs.Words.{sym, ◌∙◌}
 use Rattle.sending.proofs.Terms.{refuses, capsule_written, capsule_by}
 use Rattle.sending.proofs.write.capsule_by.Goals as goal
 

@@ -1,5 +1,5 @@
 -- `frame_header_by`, by whether the stream may be sent to: its quarter is one then. Assumes nothing.
-use Rattle.walks.proofs.Words.{sym, ◌∙◌, rules}
+use Rattle.walks.proofs.Words.{sym, ◌∙◌}
 use Rattle.sending.proofs.Terms.{refuses, sent_bounded, frame_header_written, frame_header_by}
 use Rattle.sending.proofs.write.frame_header_by.Goals as goal
 

@@ -1,6 +1,5 @@
 -- `put`: a varint and a copied span, by `put_both`. Assumes nothing.
 use Rattle.sending.proofs.Putting.{put_both}
-use Rattle.walks.proofs.Words.{rules}
 use Rattle.sending.proofs.write.put.Goals as goal
 
 pub returns : goal.returns

@@ -1,5 +1,5 @@
 -- `put_frame`, by the length of the payload, the path size and the room. Assumes nothing.
-use Rattle.walks.proofs.Words.{arith, length, rules}
+use Rattle.walks.proofs.Words.{arith, length}
 use Rattle.sending.proofs.Terms.{largest, largest_quarter, frame_bytes, put_frame}
 use Rattle.sending.proofs.Putting.{size_le, too_large, not_large, too_long, not_long, at-short, at-fits, frame_need}
 use Rattle.sending.proofs.write.put_frame.Goals as goal

@@ -1,5 +1,5 @@
 -- `put_frame_header`, by the length and the path size; the rest is what `write_varint` promises. Assumes nothing.
-use Rattle.walks.proofs.Words.{◌∙◌, ◌+◌, arith, length, rules}
+use Rattle.walks.proofs.Words.{◌∙◌, ◌+◌, arith, length}
 use Rattle.sending.proofs.Terms.{largest, encode, largest_quarter, length-encode, put_frame_header}
 use Rattle.sending.proofs.Putting.{size_le, varint-at, too_large, not_large, too_long, not_long}
 use Rattle.sending.proofs.write.put_frame_header.Goals as goal

@@ -1,5 +1,5 @@
 -- `write_datagram`, by the length of the payload and the room. Assumes nothing.
-use Rattle.walks.proofs.Words.{◌∙◌, arith, ◌++◌, length, length-set, rules}
+use Rattle.walks.proofs.Words.{◌∙◌, arith, ◌++◌, length, length-set}
 use Rattle.sending.proofs.Terms.{largest, encode, capsule_header, capsule_bytes, put_capsule}
 use Rattle.sending.proofs.Putting.{size_le, too_large, not_large, at-short, at-fits, capsule_need, after_type}
 use Rattle.sending.proofs.write.write_datagram.Goals as goal

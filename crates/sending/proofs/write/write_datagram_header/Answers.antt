@@ -1,5 +1,5 @@
 -- `write_datagram_header`, by the length and the room. Assumes nothing.
-use Rattle.walks.proofs.Words.{◌∙◌, ◌+◌, arith, length, length-set, rules}
+use Rattle.walks.proofs.Words.{◌∙◌, ◌+◌, arith, length-set}
 use Rattle.sending.proofs.Terms.{largest, encode, capsule_header, put_capsule_header}
 use Rattle.sending.proofs.Putting.{size_le, varint_there, too_large, not_large, at-short, at-fits, header_need, after_type}
 use Rattle.sending.proofs.write.write_datagram_header.Goals as goal

@@ -1,5 +1,5 @@
 -- `Judged::is_delivered`, by the nine answers. Assumes nothing.
-use Rattle.walks.proofs.Words.{sym, ap, rules}
+use Rattle.walks.proofs.Words.{sym, ap}
 use Rattle.judging.proofs.Terms.{is_delivered}
 use Rattle.judging.proofs.judge.Judged.is_delivered.Goals as goal
 
