@@ -9,8 +9,9 @@ SECONDS ?= 300
 run:
 	@command -v rt > /dev/null || { echo "rt, the command of the Rattle kit, is not on the PATH" >&2; exit 1; }
 	@mkdir -p build
-	@set -o pipefail; rt check list_capsules 2>&1 | python3 tools/progress build/run.log list_capsules >&2
-	@target/bin/list_capsules "$(FILE)"
+	@[ -e crates/list_capsules/out/list_capsules ] || echo "proving it, which takes some minutes" >&2
+	@set -o pipefail; (cd crates/list_capsules && rt run < /dev/null 2>&1 > /dev/null) | python3 tools/progress build/run.log >&2
+	@crates/list_capsules/out/list_capsules "$(FILE)"
 
 # Asks for an address, assigns one and tells routes, with the C interface.
 example: lib
@@ -27,18 +28,18 @@ relay: lib
 test:
 	@bash tests/run
 
-# Proves and runs what it is given, or everything, and says where it is.
+# Proves the crates in a folder and those below them, runs their programs, and says where it is.
 proved = mkdir -p build; set -o pipefail; \
-  rt check $(1) 2>&1 | python3 tools/progress build/check.log $(1) && tail -n 1 build/check.log
+  (cd $(1) && rt all test) 2>&1 | python3 tools/progress build/check.log && tail -n 1 build/check.log
 
 # All proofs and programs, without the edits that must be rejected.
 quick:
-	@$(call proved)
+	@$(call proved,crates)
 
 # One crate and those below it: make check CRATE=x.
 check:
-	@[ -n "$(CRATE)" ] || { echo "usage: make check CRATE=x" >&2; exit 2; }
-	@$(call proved,$(CRATE))
+	@[ -d "crates/$(CRATE)/src" ] || { echo "usage: make check CRATE=x" >&2; exit 2; }
+	@$(call proved,crates/$(CRATE))
 
 # One edit that must be rejected: make edit CRATE=x EDIT=y.
 edit:
