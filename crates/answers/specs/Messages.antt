@@ -1,4 +1,4 @@
--- Messages by numbers, the Capsule-Protocol field's value and what an error becomes, in numbers. `translated` (crate http) says what it becomes.
+-- Messages by numbers, the Capsule-Protocol field's value and what an error becomes, in numbers. `translated` (crate http_messages) says what it becomes.
 use Rattle.std.specs.Prelude.{ℕ, cond}
 use Rattle.http_messages.specs.declared.messages.Message.{Message}
 use Rattle.http_messages.specs.declared.messages.Message.TheVariants.{Request, Response}
