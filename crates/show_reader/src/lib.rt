@@ -9,68 +9,64 @@ use opening::Report;
 use planning::Ended;
 use refusals::Refusal;
 use show::{first, number, word};
+use std::io;
 
-pub fn refused(why: Refusal) {
-    word(b"refused ");
-    number(why.0 as u64);
+pub fn refused(rt: &impl Print, why: Refusal) -> io::Result<()> {
+    word(rt, b"refused ")?;
+    number(rt, why.0 as u64)
 }
 
 // A report. A delivered payload stands at the front of the gathering buffer, a delivered address value at the front of the second one.
-pub fn report(r: Report, gathering: &[u8], addresses: &[u8]) {
+pub fn report(rt: &impl Print, r: Report, gathering: &[u8], addresses: &[u8]) -> io::Result<()> {
     match r {
         Report::Delivered { length: n } => {
-            word(b"delivered ");
-            number(n);
-            word(b" (");
-            first(gathering, n as usize);
-            word(b")");
+            word(rt, b"delivered ")?;
+            number(rt, n)?;
+            word(rt, b" (")?;
+            first(rt, gathering, n as usize)?;
+            word(rt, b")")
         }
         Report::Dropped { length: n } => {
-            word(b"dropped ");
-            number(n);
+            word(rt, b"dropped ")?;
+            number(rt, n)
         }
         Report::Skipped {
             ctype: t,
             length: n,
-        } => {
-            other(b"skipped ", t, n);
-        }
+        } => other(rt, b"skipped ", t, n),
         Report::Passed {
             ctype: t,
             length: n,
-        } => {
-            other(b"passed ", t, n);
-        }
+        } => other(rt, b"passed ", t, n),
         Report::AddressDelivered {
             ctype: t,
             length: n,
         } => {
-            other(b"address ", t, n);
-            word(b" (");
-            first(addresses, n as usize);
-            word(b")");
+            other(rt, b"address ", t, n)?;
+            word(rt, b" (")?;
+            first(rt, addresses, n as usize)?;
+            word(rt, b")")
         }
         Report::Malformed {
             ctype: t,
             length: n,
-        } => {
-            other(b"malformed ", t, n);
-        }
+        } => other(rt, b"malformed ", t, n),
     }
 }
 
 // What a feeding says, each answer behind a word: a refusal, what it wrote, and what ended.
 pub fn feeding(
+    rt: &impl Print,
     answer: FeedAnswer,
     gathering: &[u8],
     addresses: &[u8],
     output: &[u8],
     before: &[u8],
-) {
+) -> io::Result<()> {
     match answer {
         FeedAnswer::Refused(why) => {
-            word(before);
-            refused(why);
+            word(rt, before)?;
+            refused(rt, why)
         }
         FeedAnswer::Took {
             consumed: _,
@@ -78,32 +74,26 @@ pub fn feeding(
             ended,
         } => {
             if written > 0 {
-                word(before);
-                word(b"writes ");
-                first(output, written);
+                word(rt, before)?;
+                word(rt, b"writes ")?;
+                first(rt, output, written)?;
             }
             match ended {
-                Ended::Nothing => {}
+                Ended::Nothing => Ok(()),
                 Ended::Capsule(r) => {
-                    word(before);
-                    report(r, gathering, addresses);
+                    word(rt, before)?;
+                    report(rt, r, gathering, addresses)
                 }
             }
         }
     }
 }
 
-pub fn ending(answer: CloseAnswer) {
+pub fn ending(rt: &impl Print, answer: CloseAnswer) -> io::Result<()> {
     match answer {
-        CloseAnswer::Refused(why) => {
-            refused(why);
-        }
-        CloseAnswer::Clean => {
-            word(b"clean");
-        }
-        CloseAnswer::Truncated => {
-            word(b"truncated");
-        }
+        CloseAnswer::Refused(why) => refused(rt, why),
+        CloseAnswer::Clean => word(rt, b"clean"),
+        CloseAnswer::Truncated => word(rt, b"truncated"),
     }
 }
 
@@ -122,9 +112,9 @@ pub fn consumed(answer: FeedAnswer) -> usize
 }
 
 // What became of a capsule that is not DATAGRAM, its type and its length.
-fn other(became: &[u8], ctype: u64, length: u64) {
-    word(became);
-    number(ctype);
-    word(b" ");
-    number(length);
+fn other(rt: &impl Print, became: &[u8], ctype: u64, length: u64) -> io::Result<()> {
+    word(rt, became)?;
+    number(rt, ctype)?;
+    word(rt, b" ")?;
+    number(rt, length)
 }
