@@ -1,96 +1,92 @@
 // A line on standard output for each question and its answer.
 use capsule_protocol::field::{FieldValue, read_field};
+use http_errors::translation;
+use http_errors::translation::{Action, ErrorCode, Translation};
 use http_messages::errors::ErrorOf;
 use http_messages::messages::Message;
 use http_messages::settings::Setting;
 use http_messages::{messages, settings};
-use http_errors::translation;
-use http_errors::translation::{Action, ErrorCode, Translation};
-use libc::STDOUT_FILENO;
 use show::{hex, number, word};
+use std::io;
 
-fn flag(b: bool) {
-    if b {
-        word(b"1");
-    } else {
-        word(b"0");
-    }
+fn flag(rt: &impl Print, b: bool) -> io::Result<()> {
+    if b { word(rt, b"1") } else { word(rt, b"0") }
 }
 
 // Two digits, or four from 0x0100 on.
-fn code(c: ErrorCode) {
-    word(b"0x");
+fn code(rt: &impl Print, c: ErrorCode) -> io::Result<()> {
+    word(rt, b"0x")?;
     let n = c.0;
     if n < 256 {
-        io::print_hex(STDOUT_FILENO, n, 2);
+        print!(rt; "{n:02x}")
     } else {
-        io::print_hex(STDOUT_FILENO, n, 4);
+        print!(rt; "{n:04x}")
     }
 }
 
-fn action(a: Action) {
+fn action(rt: &impl Print, a: Action) -> io::Result<()> {
     match a {
-        Action::None => word(b"none"),
+        Action::None => word(rt, b"none"),
         Action::Close(c) => {
-            word(b"close ");
-            number(c.0);
+            word(rt, b"close ")?;
+            number(rt, c.0)
         }
         Action::StreamError(c) => {
-            word(b"stream ");
-            code(c);
+            word(rt, b"stream ")?;
+            code(rt, c)
         }
         Action::ConnectionError(c) => {
-            word(b"connection ");
-            code(c);
+            word(rt, b"connection ")?;
+            code(rt, c)
         }
     }
 }
 
-pub(crate) fn translation(error: u64, version: u64) {
-    word(b"error ");
-    number(error);
-    word(b", version ");
-    number(version);
-    word(b": ");
+pub(crate) fn translation(rt: &impl Print, error: u64, version: u64) -> io::Result<()> {
+    word(rt, b"error ")?;
+    number(rt, error)?;
+    word(rt, b", version ")?;
+    number(rt, version)?;
+    word(rt, b": ")?;
     match translation::translate(error, version) {
         Translation::Refused(r) => {
-            word(b"refused ");
-            number(r.0 as u64);
+            word(rt, b"refused ")?;
+            number(rt, r.0 as u64)?;
         }
-        Translation::Becomes(a) => action(a),
+        Translation::Becomes(a) => action(rt, a)?,
     }
-    word(b"\n");
+    word(rt, b"\n")
 }
 
-pub(crate) fn setting(value: u64, stored: u64) {
-    word(b"setting ");
-    number(value);
-    word(b", stored ");
-    number(stored);
+pub(crate) fn setting(rt: &impl Print, value: u64, stored: u64) -> io::Result<()> {
+    word(rt, b"setting ")?;
+    number(rt, value)?;
+    word(rt, b", stored ")?;
+    number(rt, stored)?;
     let answer = settings::received(value, stored);
     match answer {
         Setting::Accepted { value: v } => {
-            word(b": accepted ");
-            number(v);
+            word(rt, b": accepted ")?;
+            number(rt, v)?;
         }
-        Setting::Bad => word(b": bad"),
+        Setting::Bad => word(rt, b": bad")?,
     }
     match answer.error() {
         ErrorOf::NoError => {}
         ErrorOf::Is(e) => {
-            word(b", error ");
-            number(e.0);
+            word(rt, b", error ")?;
+            number(rt, e.0)?;
         }
     }
-    word(b"\n");
+    word(rt, b"\n")
 }
 
-fn name(m: Message) {
+fn name(rt: &impl Print, m: Message) -> io::Result<()> {
     match m {
-        Message::Request => word(b"request"),
+        Message::Request => word(rt, b"request"),
         Message::Response { status } => {
-            word(b"response ");
-            number(status as u64);
+            word(rt, b"response ")?;
+            number(rt, status as u64)
         }
     }
 }
@@ -113,33 +109,35 @@ fn malformed(
 
 // The fields are Content-Length, Content-Type and Transfer-Encoding.
 pub(crate) fn message(
+    rt: &impl Print,
     m: Message,
     content_length: bool,
     content_type: bool,
     transfer_encoding: bool,
-) {
-    name(m);
-    word(b", fields ");
-    flag(content_length);
-    flag(content_type);
-    flag(transfer_encoding);
-    word(b": malformed ");
-    flag(malformed(m, content_length, content_type, transfer_encoding));
-    word(b", field counts ");
-    flag(m.field_counts());
-    word(b"\n");
+) -> io::Result<()> {
+    name(rt, m)?;
+    word(rt, b", fields ")?;
+    flag(rt, content_length)?;
+    flag(rt, content_type)?;
+    flag(rt, transfer_encoding)?;
+    word(rt, b": malformed ")?;
+    let bad = malformed(m, content_length, content_type, transfer_encoding);
+    flag(rt, bad)?;
+    word(rt, b", field counts ")?;
+    flag(rt, m.field_counts())?;
+    word(rt, b"\n")
 }
 
-pub(crate) fn value(bytes: &[u8]) {
-    word(b"value ");
-    hex(bytes);
+pub(crate) fn value(rt: &impl Print, bytes: &[u8]) -> io::Result<()> {
+    word(rt, b"value ")?;
+    hex(rt, bytes)?;
     match read_field(bytes) {
-        FieldValue::InUse => word(b": in use\n"),
-        FieldValue::Absent => word(b": absent\n"),
+        FieldValue::InUse => word(rt, b": in use\n"),
+        FieldValue::Absent => word(rt, b": absent\n"),
         FieldValue::Refused(why) => {
-            word(b": refused ");
-            number(why.0 as u64);
-            word(b"\n");
+            word(rt, b": refused ")?;
+            number(rt, why.0 as u64)?;
+            word(rt, b"\n")
         }
     }
 }

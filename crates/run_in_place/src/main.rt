@@ -11,6 +11,7 @@ use host::reader::{Connection, close_connection, feed_connection};
 use opening::Role;
 use show::{number, word};
 use show_reader::{consumed, ending, feeding, refused};
+use std::io;
 
 // A connection after a feeding and, of that, after a close, with both answers.
 #[derive(Clone, Copy)]
@@ -46,50 +47,57 @@ fn serve(
 
 // One feeding, shown.
 fn feed(
+    rt: &impl Print,
     connection: Connection,
     piece: &[u8],
     gathering: &mut [u8],
     addresses: &mut [u8],
-) -> Served {
+) -> io::Result<Served> {
     let mut output = [0u8; 0];
     let served = serve(connection, piece, gathering, addresses, &mut output);
     let answer = served.answer;
-    feeding(answer, gathering, addresses, &output, b" ");
-    served
+    feeding(rt, answer, gathering, addresses, &output, b" ")?;
+    Ok(served)
 }
 
 // Feeds a piece until it is used up. The two buffers for values are the same in every feeding.
 fn read(
+    rt: &impl Print,
     connection: Connection,
     piece: &[u8],
     gathering: &mut [u8],
     addresses: &mut [u8],
-) -> Connection {
+) -> io::Result<Connection> {
     let mut c = connection;
     let mut at = 0;
     while at < piece.len() {
-        let served = feed(c, &piece[at..], gathering, addresses);
+        let served = feed(rt, c, &piece[at..], gathering, addresses)?;
         c = served.connection;
         let answer = served.answer;
         let n = consumed(answer);
         if n == 0 {
-            return c;
+            return Ok(c);
         }
         if n > piece.len() - at {
-            return c;
+            return Ok(c);
         }
         at += n;
     }
-    c
+    Ok(c)
 }
 
 // A close, shown: an empty piece before it changes nothing.
-fn close(connection: Connection, gathering: &mut [u8], addresses: &mut [u8]) {
+fn close(
+    rt: &impl Print,
+    connection: Connection,
+    gathering: &mut [u8],
+    addresses: &mut [u8],
+) -> io::Result<()> {
     let mut output = [0u8; 0];
     let served = serve(connection, b"", gathering, addresses, &mut output);
     let answer = served.ending;
-    word(b" ");
-    ending(answer);
+    word(rt, b" ")?;
+    ending(rt, answer)
 }
 
 fn connected(reader: Reader) -> Connection {
@@ -101,112 +109,148 @@ fn connected(reader: Reader) -> Connection {
 }
 
 // Two pieces, read by an endpoint that opted in or did not, and a clean close.
-fn read_two(opt_in: bool, first: &[u8], second: &[u8], addresses: &mut [u8]) {
+fn read_two(
+    rt: &impl Print,
+    opt_in: bool,
+    first: &[u8],
+    second: &[u8],
+    addresses: &mut [u8],
+) -> io::Result<()> {
     let opened = Reader::open(Role::Endpoint, 1200, false, opt_in);
     match opened {
         Opened::Refused(why) => {
-            word(b" ");
-            refused(why);
+            word(rt, b" ")?;
+            refused(rt, why)
         }
         Opened::Ready(reader) => {
             let mut gathering = [0u8; 1200];
-            let c = read(connected(reader), first, &mut gathering, addresses);
-            let d = read(c, second, &mut gathering, addresses);
-            close(d, &mut gathering, addresses);
+            let c = read(rt, connected(reader), first, &mut gathering, addresses)?;
+            let d = read(rt, c, second, &mut gathering, addresses)?;
+            close(rt, d, &mut gathering, addresses)
         }
     }
 }
 
 // The same as a line of its own, behind a name.
-fn line(name: &[u8], opt_in: bool, first: &[u8], second: &[u8], addresses: &mut [u8]) {
-    word(name);
-    read_two(opt_in, first, second, addresses);
-    word(b"\n");
+fn line(
+    rt: &impl Print,
+    name: &[u8],
+    opt_in: bool,
+    first: &[u8],
+    second: &[u8],
+    addresses: &mut [u8],
+) -> io::Result<()> {
+    word(rt, name)?;
+    read_two(rt, opt_in, first, second, addresses)?;
+    word(rt, b"\n")
 }
 
-fn cut_at(k: usize, opt_in: bool, first: &[u8], rest: &[u8]) {
-    word(b"cut ");
-    number(k as u64);
+fn cut_at(rt: &impl Print, k: usize, opt_in: bool, first: &[u8], rest: &[u8]) -> io::Result<()> {
+    word(rt, b"cut ")?;
+    number(rt, k as u64)?;
     let mut addresses = [0u8; 1024];
-    line(b":", opt_in, first, rest, &mut addresses);
+    line(rt, b":", opt_in, first, rest, &mut addresses)
 }
 
-fn cut_everywhere(opt_in: bool, stream: &[u8]) {
+fn cut_everywhere(rt: &impl Print, opt_in: bool, stream: &[u8]) -> io::Result<()> {
     let mut k = 0;
     while k <= stream.len() {
-        cut_at(k, opt_in, &stream[0..k], &stream[k..]);
+        cut_at(rt, k, opt_in, &stream[0..k], &stream[k..])?;
         k += 1;
     }
+    Ok(())
 }
 
 // The first capsule, read by a reader that lies in a record.
-fn in_a_record(piece: &[u8]) {
-    word(b"in a record:");
+fn in_a_record(rt: &impl Print, piece: &[u8]) -> io::Result<()> {
+    word(rt, b"in a record:")?;
     let opened = Reader::open(Role::Endpoint, 1200, false, true);
     match opened {
         Opened::Refused(why) => {
-            word(b" ");
-            refused(why);
+            word(rt, b" ")?;
+            refused(rt, why)?;
         }
         Opened::Ready(reader) => {
             let mut gathering = [0u8; 1200];
             let mut addresses = [0u8; 1024];
-            let served = feed(connected(reader), piece, &mut gathering, &mut addresses);
+            let served = feed(rt, connected(reader), piece, &mut gathering, &mut addresses)?;
             let last = served.closed;
-            word(b" id ");
-            number(last.id);
-            word(b" deadline ");
-            number(last.deadline);
+            word(rt, b" id ")?;
+            number(rt, last.id)?;
+            word(rt, b" deadline ")?;
+            number(rt, last.deadline)?;
             let answer = served.ending;
-            word(b" ");
-            ending(answer);
+            word(rt, b" ")?;
+            ending(rt, answer)?;
         }
     }
-    word(b"\n");
+    word(rt, b"\n")
 }
 
 // A malformed capsule finishes the reader: what is fed after it, and the close, are refused.
-fn malformed() {
+fn malformed(rt: &impl Print) -> io::Result<()> {
     let mut addresses = [0u8; 1024];
     line(
+        rt,
         b"malformed:",
         true,
         b"\x01\x07\x00\x05\x00\x00\x00\x00\x00\x17\x00",
         b"\x17\x00",
         &mut addresses,
-    );
+    )?;
     line(
+        rt,
         b"no request:",
         true,
         b"\x17\x00\x02",
         b"\x00\x17\x00",
         &mut addresses,
-    );
-    line(b"too long:", true, b"\x01\x44", b"\x01\x00", &mut addresses);
+    )?;
+    line(
+        rt,
+        b"too long:",
+        true,
+        b"\x01\x44",
+        b"\x01\x00",
+        &mut addresses,
+    )
 }
 
 // The second buffer is one byte short for an endpoint that opted in.
-fn short() {
+fn short(rt: &impl Print) -> io::Result<()> {
     let mut addresses = [0u8; 1023];
-    line(b"short, opted in:", true, b"\x03", b"\x00", &mut addresses);
     line(
+        rt,
+        b"short, opted in:",
+        true,
+        b"\x03",
+        b"\x00",
+        &mut addresses,
+    )?;
+    line(
+        rt,
         b"short, not opted in:",
         false,
         b"\x03",
         b"\x00",
         &mut addresses,
-    );
+    )
 }
 
-fn main() {
-    in_a_record(b"\x00\x03abc");
-    in_a_record(b"\x03\x00");
-    cut_everywhere(false, b"\x00\x03abc\x17\x00\x40\x40\x02\xff\xee\x00\x00");
+fn main(rt: HostRuntime) -> io::Result<()> {
+    in_a_record(&rt, b"\x00\x03abc")?;
+    in_a_record(&rt, b"\x03\x00")?;
+    cut_everywhere(
+        &rt,
+        false,
+        b"\x00\x03abc\x17\x00\x40\x40\x02\xff\xee\x00\x00",
+    )?;
     // an ADDRESS_REQUEST, an ADDRESS_ASSIGN and a ROUTE_ADVERTISEMENT
     cut_everywhere(
+        &rt,
         true,
         b"\x02\x07\x01\x04\x00\x00\x00\x00\x00\x01\x07\x01\x04\x0a\x00\x00\x01\x20\x03\x0a\x04\x0a\x00\x00\x00\x0a\x00\x00\xff\x00",
-    );
-    malformed();
-    short();
+    )?;
+    malformed(&rt)?;
+    short(&rt)
 }
