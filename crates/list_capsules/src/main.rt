@@ -1,5 +1,5 @@
 #![tactic(auto)]
 
-fn main() {
-    list_program::run();
+fn main(rt: HostRuntime) {
+    list_program::run(&rt);
 }

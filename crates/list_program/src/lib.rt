@@ -7,9 +7,12 @@ ghost use Rattle.text_lines.specs.Lines.{end_line, longest};
 ghost use Rattle.list_program.specs.Progress.{progress_of, Grows, grown, line_in, Noted, Ready, Read, Within, Listed};
 
 use capsule::reader::{CloseAnswer, FeedAnswer, Opened, Reader};
-use libc::{STDERR_FILENO, STDIN_FILENO, STDOUT_FILENO};
 use opening::Role;
 use planning::Ended;
+use std::env::FillError;
+use std::io::{Cursor, Read, Write};
+use std::rt::{Env, Files};
+use std::{fs, io};
 use text_lines::{LONGEST, Line};
 
 // The longest DATAGRAM that is delivered.
@@ -29,39 +32,62 @@ struct Progress {
 }
 
 // Lists the file that the one argument names, or standard input where there is none. More arguments are refused.
-pub fn run() {
-    // the program's own name is counted
-    let count = os::arg_count();
-    if count < 2 {
-        list(STDIN_FILENO, b"standard input");
+pub fn run<R: Env + Files + Input + Print + Eprint>(rt: &R) {
+    if is_given(rt, 2) {
+        let _ = eprintln!(rt; "more than one argument: name one file, or none for standard input");
         return;
     }
-    if count > 2 {
-        io::write_all(
-            STDERR_FILENO,
-            b"more than one argument: name one file, or none for standard input\n",
-        );
-        return;
+    let mut path = [0u8; 4096];
+    match rt.arg(1, &mut path) {
+        Err(FillError::NotPresent) => list(rt, &mut rt.reader(), "standard input"),
+        Err(FillError::TooLong) => {
+            let _ = eprintln!(rt; "first argument: File name too long");
+        }
+        Ok(n) => match std::str::from_utf8(&path[..n]) {
+            Ok(name) => list_file(rt, name),
+            Err(_) => {
+                let _ = eprintln!(rt;
+                    "first argument: not UTF-8: such a file is listed by standard input"
+                );
+            }
+        },
     }
-    let mut path = io::buffer();
-    let n = os::arg(1, &mut path);
-    if os::errno() != 0 {
-        os::fail(b"first argument");
-        return;
-    }
-    let fd = os::open_read(&path[..n]);
-    if fd < 0 {
-        os::fail(&path[..n]);
-        return;
-    }
-    list(fd, &path[..n]);
-    libc::close(fd);
 }
 
-// Lists what a descriptor reads. The name is for messages.
-fn list(fd: i32, name: &[u8]) {
-    let mut input = io::large_buffer();
-    let mut block = io::large_buffer();
+// Whether there is an argument of this number. The program's own name has number 0.
+fn is_given(rt: &impl Env, number: usize) -> bool {
+    let mut none = [0u8; 0];
+    match rt.arg(number, &mut none) {
+        Err(FillError::NotPresent) => false,
+        Err(FillError::TooLong) | Ok(_) => true,
+    }
+}
+
+fn list_file<R: Files + Print + Eprint>(rt: &R, name: &str) {
+    match fs::open(rt, name) {
+        Ok(mut file) => list(rt, &mut file, name),
+        Err(why) => fail(rt, name, why),
+    }
+}
+
+// A line on standard error: what failed, and the system's words for it, without the number behind them.
+fn fail(rt: &impl Eprint, what: &str, why: io::Error) {
+    let mut said = Cursor::new([0u8; 256]);
+    let _ = write!(said, "{why}");
+    let length = said.position().min(256) as usize;
+    let said = said.into_inner();
+    let text = std::str::from_utf8(&said[..length]).unwrap_or("");
+    let words = match text.split_once(" (os error ") {
+        Some((words, _)) => words,
+        None => text,
+    };
+    let _ = eprintln!(rt; "{what}: {words}");
+}
+
+// Lists what a reader gives. The name is for messages.
+fn list(rt: &(impl Print + Eprint), source: &mut impl Read, name: &str) {
+    let mut input = [0u8; 65536];
+    let mut block = [0u8; 65536];
     let mut gathering = [0u8; 1200];
     // of an endpoint that did not opt in neither is asked for
     let mut addresses = [0u8; 0];
@@ -69,11 +95,12 @@ fn list(fd: i32, name: &[u8]) {
     let opened = Reader::open(Role::Endpoint, LIMIT, false, false);
     match opened {
         Opened::Refused(_) => {
-            io::write_all(STDERR_FILENO, b"the limit is refused\n");
+            let _ = eprintln!(rt; "the limit is refused");
         }
         Opened::Ready(reader) => {
             list_all(
-                fd,
+                rt,
+                source,
                 name,
                 reader,
                 &mut input,
@@ -88,8 +115,9 @@ fn list(fd: i32, name: &[u8]) {
 
 // Goes on until the last line waits or a failure was said, and writes what waits then.
 fn list_all(
-    fd: i32,
-    name: &[u8],
+    rt: &(impl Print + Eprint),
+    source: &mut impl Read,
+    name: &str,
     reader: Reader,
     input: &mut [u8],
     gathering: &mut [u8],
@@ -102,10 +130,12 @@ fn list_all(
     let mut l = start(reader, block);
     let mut turns = u64::MAX;
     while turns > 0 && l.going {
-        l = step(fd, name, l, input, gathering, addresses, output, block);
+        l = step(
+            rt, source, name, l, input, gathering, addresses, output, block,
+        );
         turns -= 1;
     }
-    write_held(block, l.held);
+    let _ = write_held(rt, block, l.held);
 }
 
 // The first line waits.
@@ -119,8 +149,9 @@ fn start(reader: Reader, block: &mut [u8]) -> Progress
 
 // One step of a listing: writes where a line might not fit, else feeds what was read, else reads.
 fn step(
-    fd: i32,
-    name: &[u8],
+    rt: &(impl Print + Eprint),
+    source: &mut impl Read,
+    name: &str,
     l: Progress,
     input: &mut [u8],
     gathering: &mut [u8],
@@ -133,25 +164,27 @@ fn step(
 {
     let held = l.held;
     if block.len() - held < LONGEST {
-        let going = write_held(block, held);
+        let going = write_held(rt, block, held);
         let reader = l.reader;
         return Progress::new(reader, l.have, l.used, 0, going);
     }
     if l.used < l.have {
         return list_read(l, input, gathering, addresses, output, block);
     }
-    read_more(fd, name, l, input, block)
+    read_more(rt, source, name, l, input, block)
 }
 
 // Writes the lines that wait. Standard error gets a line where that fails.
-fn write_held(block: &[u8], held: usize) -> bool
+fn write_held(rt: &(impl Print + Eprint), block: &[u8], held: usize) -> bool
     requires { held ≤ length block.now }
 {
-    if io::write_all(STDOUT_FILENO, &block[..held]) {
-        return true;
+    match rt.write_all(&block[..held]) {
+        Ok(()) => true,
+        Err(why) => {
+            fail(rt, "standard output", why);
+            false
+        }
     }
-    os::fail(b"standard output");
-    false
 }
 
 impl Progress {
@@ -218,25 +251,32 @@ fn list_read(
 }
 
 // One read, or the last line at the end of the input. Standard error gets a line where reading fails, and there is no last line.
-fn read_more(fd: i32, name: &[u8], l: Progress, input: &mut [u8], block: &mut [u8]) -> Progress
+fn read_more(
+    rt: &impl Eprint,
+    source: &mut impl Read,
+    name: &str,
+    l: Progress,
+    input: &mut [u8],
+    block: &mut [u8],
+) -> Progress
     requires { l.held + longest ≤ length block.old }
     ensures { Read result l.reader (length input.new) (length block.new) }
 {
     let reader = l.reader;
     let held = l.held;
-    let got = libc::read(fd, input);
-    if got < 0 {
-        os::fail(name);
-        return Progress::new(reader, 0, 0, held, false);
+    match source.read(input) {
+        Err(why) => {
+            fail(rt, name, why);
+            Progress::new(reader, 0, 0, held, false)
+        }
+        Ok(0) => {
+            let closed = reader.close();
+            let end = closed.answer;
+            let last = note_end(end, block, held);
+            Progress::new(reader, 0, 0, last, false)
+        }
+        Ok(have) => Progress::new(reader, have, 0, held, true),
     }
-    if got == 0 {
-        let closed = reader.close();
-        let end = closed.answer;
-        let last = note_end(end, block, held);
-        return Progress::new(reader, 0, 0, last, false);
-    }
-    let have = io::count(got, input);
-    Progress::new(reader, have, 0, held, true)
 }
 
 // Whether a feeding is due, and any line of it has room.
