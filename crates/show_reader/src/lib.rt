@@ -98,6 +98,7 @@ pub fn ending(rt: &impl Print, answer: CloseAnswer) -> io::Result<()> {
 }
 
 // How many bytes a feeding consumed: a refused one none.
+#[tactic(auto, unfolding(crate::specs::Consumed::consumed_in))]
 pub fn consumed(answer: FeedAnswer) -> usize
     ensures { result ≡ consumed_in answer }
 {
