@@ -30,6 +30,7 @@ impl Listed {
 }
 
 // Counts the complete capsules of a buffer and their header bytes.
+#[tactic(auto, using(crate::proofs::Rounds::listed, crate::proofs::Rounds::too_long))]
 pub fn list(buffer: &[u8]) -> Listed
     ensures { result ≡ listing_of buffer.now }
 {

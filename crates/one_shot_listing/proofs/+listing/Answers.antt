@@ -1,5 +1,5 @@
 -- By what `read_varint` answers at each field: the laws of Rounds.
-use Rattle.walks.proofs.Words.{◌≡◌, refl, sym, ap, ◌∙◌, ℕ, List, arith, rules, ◌+◌, ◌≤◌, ◌<◌, length, drop}
+use Rattle.walks.proofs.Words.{◌≡◌, refl, sym, ap, ◌∙◌, arith, drop}
 use Rattle.one_shot_listing.proofs.Terms.{Whole, read_varint, rest_of}
 use Rattle.one_shot_listing.proofs.Rounds.{field_within, type_within, head_within, at-end, in_type_lem, in_length_lem, in_value_lem, at_next}
 use Rattle.one_shot_listing.proofs.+listing.Goals as goal
@@ -11,13 +11,16 @@ read_type-returns-then-start-s t c = at-end c.args.s.now c.args.start c.requires
 
 pub read_type-overflow_add-start : goal.read_type-overflow_add-start
 read_type-overflow_add-start t c =
-    omega (arith, field_within c.args.s.now c.args.start _ _ c.requires.within
-    (sym (c.read_varint.ensures ∙ ap read_varint (rest_of c.args.s.now c.args.start)) ∙ c.in-Whole.is))
+    omega (
+      arith,
+      field_within c.args.s.now c.args.start _ _ c.requires.within
+          (sym (c.read_varint.ensures ∙ ap read_varint (rest_of c.args.s.now c.args.start)) ∙ c.in-Whole.is),
+    )
 
 pub read_type-read_length-requires : goal.read_type-read_length-requires
 read_type-read_length-requires t c =
     let whole : read_varint (drop c.args.start c.args.s.now) ≡ Whole c.in-Whole.value c.in-Whole.size =
-        sym (c.read_varint.ensures ∙ ap read_varint (rest_of c.args.s.now c.args.start)) ∙ c.in-Whole.is in (
+    sym (c.read_varint.ensures ∙ ap read_varint (rest_of c.args.s.now c.args.start)) ∙ c.in-Whole.is in (
       omega (arith, field_within c.args.s.now c.args.start _ _ c.requires.within whole),
       (c.requires, record { ctype = c.in-Whole.value; size = c.in-Whole.size; reads = whole; ends = refl }),
     )
@@ -37,13 +40,16 @@ read_length-slice_bounds-read_varint-start t c = omega (arith, type_within c.arg
 
 pub read_length-overflow_add-at : goal.read_length-overflow_add-at
 read_length-overflow_add-at t c =
-    omega (arith, field_within c.args.s.now c.args.at _ _ (type_within c.args.s.now c.args.start c.requires.0.within c.args.at c.requires.1).1
-    (sym (c.read_varint.ensures ∙ ap read_varint (rest_of c.args.s.now c.args.at)) ∙ c.in-Whole.is))
+    omega (
+      arith,
+      field_within c.args.s.now c.args.at _ _ (type_within c.args.s.now c.args.start c.requires.0.within c.args.at c.requires.1).1
+          (sym (c.read_varint.ensures ∙ ap read_varint (rest_of c.args.s.now c.args.at)) ∙ c.in-Whole.is),
+    )
 
 pub read_length-read_value-requires : goal.read_length-read_value-requires
 read_length-read_value-requires t c =
     let whole : read_varint (drop c.args.at c.args.s.now) ≡ Whole c.in-Whole.value c.in-Whole.size =
-        sym (c.read_varint.ensures ∙ ap read_varint (rest_of c.args.s.now c.args.at)) ∙ c.in-Whole.is in (
+    sym (c.read_varint.ensures ∙ ap read_varint (rest_of c.args.s.now c.args.at)) ∙ c.in-Whole.is in (
       omega (arith, field_within c.args.s.now c.args.at _ _ (type_within c.args.s.now c.args.start c.requires.0.within c.args.at c.requires.1).1 whole),
       (c.requires.0, record { middle = c.args.at; type_read = c.requires.1; size = c.in-Whole.size; reads = whole; ends = refl }),
     )
