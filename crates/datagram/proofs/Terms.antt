@@ -9,8 +9,6 @@ unfoldable pub use Rattle.send_rights.specs.{Rights.sending_of}
 unfoldable pub use Rattle.sending.specs.{Code.capsule_by, Code.frame_by, Code.frame_header_by, Sending.capsule_bytes, Sending.capsule_header, Sending.capsule_written, Sending.frame_bytes, Sending.frame_written, Sending.write_capsule, Sending.write_frame, Sending.write_frame_header}
 pub use Rattle.stream_records.specs.{Tables.Table, Tables.sought, declared.answers.Lookup.Lookup, declared.record.StreamRecord.StreamRecord}
 unfoldable pub use Rattle.stream_records.specs.{Tables.entry_at, Tables.is_bad, Tables.lookup_of}
-pub use Rattle.streams.proofs.{Answering.Answers, Answering.Sought, Answering.answering, Answering.asking, Answering.asks_and_looks_up, Answering.ends-answering, Answering.finishing, Answering.identifier, Answering.meets_answering, Answering.seeks_and_looks_up, Elements.rows_ty, Querying.LookedUp, Querying.looking, Querying.rows_at}
-pub use Rattle.walks.proofs.{Calling.Ensures, Calling.Fact, Passing.Param, Passing.bytes, Passing.clears, Passing.output, Passing.slots, Passing.takes_last, Passing.values, Passing.word}
 pub use Rattle.wire.proofs.{Encoding.length-encode, Encoding.read_back}
 pub use Rattle.wire.specs.{Writing.writing, declared.units.Quarter.Quarter, declared.varint.Varint.TheVariants.Whole, declared.varint.Written.Written}
 unfoldable pub use Rattle.wire.specs.{Units.largest_quarter, Varint.encode, Varint.largest, Varint.least_size, Varint.read_varint}

@@ -1,5 +1,4 @@
 -- By the three answers; `cc` puts each into the definition.
-use Rattle.walks.proofs.Words.{rules}
 use Rattle.http_errors.proofs.Terms.{number, close_error}
 use Rattle.http_errors.proofs.ties.close_error.Goals as goal
 

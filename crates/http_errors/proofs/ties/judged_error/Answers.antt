@@ -1,5 +1,4 @@
 -- By the nine answers; `cc` puts each into the definition.
-use Rattle.walks.proofs.Words.{rules}
 use Rattle.http_errors.proofs.Terms.{number, judged_error}
 use Rattle.http_errors.proofs.ties.judged_error.Goals as goal
 

@@ -1,5 +1,4 @@
 -- By the six reports; `cc` puts each into the definition.
-use Rattle.walks.proofs.Words.{rules}
 use Rattle.http_errors.proofs.Terms.{number, report_error}
 use Rattle.http_errors.proofs.ties.report_error.Goals as goal
 

@@ -1,5 +1,5 @@
 -- By the one test.
-use Rattle.walks.proofs.Words.{arith, eq-eqb, ne_eqb, rules}
+use Rattle.walks.proofs.Words.{arith, eq-eqb, ne_eqb}
 use Rattle.http_errors.proofs.Terms.{row_of}
 use Rattle.http_errors.proofs.translation.row_of.Goals as goal
 
