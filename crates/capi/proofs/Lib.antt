@@ -4,9 +4,6 @@ pub mod Throughout
 pub mod Entries
 pub mod Payloads
 pub mod Nonzero
-pub mod Crossing
-pub mod Exporting
-pub mod Sending
 pub mod TableCalls
 pub mod Cases
 pub mod Told

@@ -1,13 +1,13 @@
 -- Calls on a table (specs/Claims.antt), from the laws of the crate streams. Assumes nothing.
 use Rattle.walks.proofs.Words.{◌↔◌, eqb-true, ◌≡◌, refl, ℕ, Bool, true, false, cond, not, eqb, le-leb, lt-leb}
-use Rattle.capi.proofs.Terms.{StreamId, Side, Receive, Send, Endpoint, Intermediary, zero_one, StreamOpened, SideClosed, Table, opening_of, closing_of, table_opened, table_closed, stays_good, flag_of, role_of, side_of, status_of, wrote_by, opened_answer, stream_id, open_table, close_table, TableStaysGood, TableKept, RefusedTableLeaves, WrittenKept, NumbersRead}
+use Rattle.capi.proofs.Terms.{StreamId, Side, Receive, Send, Endpoint, Intermediary, zero_one, StreamOpened, SideClosed, Table, opening_of, closing_of, table_opened, table_closed, stays_good, flag_of, role_of, side_of, status_of, wrote_by, opened_answer, stream_id_of, open_table, close_table, TableStaysGood, TableKept, RefusedTableLeaves, WrittenKept, NumbersRead}
 use Rattle.stream_records.specs.declared.answers.StreamOpened.TheVariants as opening
 use Rattle.stream_records.specs.declared.answers.SideClosed.TheVariants as closing
 use Rattle.stream_answers.specs.Table.{closed_answer}
 
 pub table_stays_good : TableStaysGood
 unfolding open_table close_table
-table_stays_good t id x good = let g = stays_good t (stream_id id) good in (g.0 (flag_of x), g.1 (side_of x))
+table_stays_good t id x good = let g = stays_good t (stream_id_of id) good in (g.0 (flag_of x), g.1 (side_of x))
 
 open_leaves : (t : Table) (id : StreamId) (semantics : Bool) (o : StreamOpened) → ((opened_answer o).refusal ≡ 0 → ⊥) → table_opened t id semantics o ≡ t
 unfolding opened_answer table_opened
@@ -22,8 +22,8 @@ close_leaves t side (closing.Closed i freed) n = absurd (n refl)
 pub refused-table_leaves : RefusedTableLeaves
 unfolding open_table close_table
 refused-table_leaves t id x = (
-  open_leaves t (stream_id id) (flag_of x) (opening_of t (stream_id id)),
-  close_leaves t (side_of x) (closing_of t (stream_id id) (side_of x)),
+  open_leaves t (stream_id_of id) (flag_of x) (opening_of t (stream_id_of id)),
+  close_leaves t (side_of x) (closing_of t (stream_id_of id) (side_of x)),
 )
 
 pub table_kept : TableKept

@@ -10,13 +10,12 @@ pub use Rattle.addresses.specs.{Addresses.Step, Addresses.done, Addresses.malfor
 unfoldable pub use Rattle.addresses.specs.{Addresses.address_at, Addresses.ahead, Addresses.all_of, Addresses.are_good, Addresses.clear_beyond, Addresses.entries, Addresses.entries_by, Addresses.entry_at, Addresses.good_entry, Addresses.good_requests, Addresses.good_value, Addresses.identified, Addresses.is_address_type, Addresses.longest_address_value, Addresses.onwards, Addresses.range_at, Addresses.well_formed, Addresses.width_of, Encoding.entry_bytes, Encoding.range_bytes, Encoding.value_bytes}
 pub use Rattle.answers.specs.{AddressCapsules.cursor, declared.varint.WrittenAnswer.WrittenAnswer}
 unfoldable pub use Rattle.answers.specs.{AddressCapsules.address_found, AddressCapsules.found_number, AddressCapsules.route_found, Identifiers.quarter_answer, Identifiers.stream_answer, Messages.action_answer, Messages.field_answer, Messages.message_of, Messages.translation_answer, Numbers.end_number, Numbers.error_number, Numbers.side_of, Numbers.status_of, OneShot.ending_number, OneShot.listing_answer, Varint.varint_answer, Varint.written_answer}
-pub use Rattle.capi.specs.{Cases.Cases, Cases.SendingCases, Claims.CloseKept, Claims.Demand3InWords, Claims.EntriesGoOn, Claims.FeedKept, Claims.GoesOn, Claims.LookKept, Claims.MalformedError, Claims.NotZero, Claims.Numbered, Claims.NumberedRefusals, Claims.NumbersRead, Claims.OpenKept, Claims.PayloadPart, Claims.ReaderKept, Claims.RefusalLeaves, Claims.RefusedReaderLeaves, Claims.RefusedTableLeaves, Claims.RefusedWriteLeaves, Claims.TableKept, Claims.TableStaysGood, Claims.Throughout, Claims.WritingNumbered, Claims.WrittenKept, Claims.ZeroWordsRefused, Claims.closed_in, Claims.fed_in, Table.closed, Table.opened, Table.stream_id, Told.AnswersTold, Told.ElseZero, Told.ErrorSo, Told.VarintSo, Varint.wrote}
+pub use Rattle.capi.specs.{Cases.Cases, Cases.SendingCases, Claims.CloseKept, Claims.Demand3InWords, Claims.EntriesGoOn, Claims.FeedKept, Claims.GoesOn, Claims.LookKept, Claims.MalformedError, Claims.NotZero, Claims.Numbered, Claims.NumberedRefusals, Claims.NumbersRead, Claims.OpenKept, Claims.PayloadPart, Claims.ReaderKept, Claims.RefusalLeaves, Claims.RefusedReaderLeaves, Claims.RefusedTableLeaves, Claims.RefusedWriteLeaves, Claims.TableKept, Claims.TableStaysGood, Claims.Throughout, Claims.WritingNumbered, Claims.WrittenKept, Claims.ZeroWordsRefused, Claims.closed_in, Claims.fed_in, Table.closed, Table.opened, Table.stream_id_of, Told.AnswersTold, Told.ElseZero, Told.ErrorSo, Told.VarintSo, Varint.wrote}
 unfoldable pub use Rattle.capi.specs.{Claims.numbers_of, Claims.run_numbers, Claims.run_words, Claims.words_call, Sight.look_words, Table.close_table, Table.open_table, Told.address_in, Told.bit_in, Told.ended_in, Told.error_in, Told.field_in, Told.found_in, Told.listed_in, Told.looked_in, Told.opened_in, Told.range_in, Told.refused_or, Told.rule_in, Told.side_closed_in, Told.standing_in, Told.stream_in, Told.translation_in, Told.varint_in, Told.written_in, Varint.wrote_by}
 pub use Rattle.capsule.specs.{Calls.Lent, Calls.Reply, Calls.close, Calls.feed, Reader.fresh, Reader.opening, declared.reader.CloseAnswer.CloseAnswer, declared.reader.FeedAnswer.FeedAnswer, declared.reader.Opened.Opened, declared.reader.Reader.Reader}
 unfoldable pub use Rattle.capsule.specs.{Book.book_call, Book.new_book, Book.only_if, Calls.finishes_in, Calls.run, Reader.close_of, Reader.end_at, Reader.fed_by, Reader.feed_by, Reader.feed_of, Reader.is_makeable, Reader.is_opening, Reader.judged_in, Reader.open_of, Reader.reader_call, Reader.stored, Reader.take_of, Reader.verdict_of, State.of_book}
 pub use Rattle.capsule_laws.proofs.{Arising.refused-close_unchanged, Lists.demand_3, Lists.fresh_book, Lists.fresh_open, Lists.made_book, Lists.open_fresh, Makeable.calls_makeable, Makeable.refused_unchanged, Makeable.stays_makeable}
 pub use Rattle.capsule_laws.specs.{Claims.HandedOn}
-pub use Rattle.datagram.proofs.{Framing.framed, Outgoing.sent}
 pub use Rattle.http_messages.specs.{declared.errors.ErrorOf.ErrorOf}
 unfoldable pub use Rattle.http_messages.specs.{Errors.number}
 pub use Rattle.capsule_protocol.specs.{declared.field.FieldValue.FieldValue}
@@ -49,8 +48,7 @@ unfoldable pub use Rattle.stream_answers.specs.{Frames.delivered_answer, Frames.
 pub use Rattle.stream_records.proofs.{Closings.stays_good}
 pub use Rattle.stream_records.specs.{Tables.Table, declared.answers.SideClosed.SideClosed, declared.answers.Standing.Standing, declared.answers.StreamOpened.StreamOpened, declared.record.Side.Side, declared.record.Side.TheVariants.Receive, declared.record.Side.TheVariants.Send}
 unfoldable pub use Rattle.stream_records.specs.{Records.both_closed, Records.closed_side, Records.flag, Records.holds, Records.is_bad_record, Records.is_blank, Records.with_closed, Records.without, Tables.any_bad, Tables.close_entry, Tables.closing_of, Tables.find, Tables.is_bad, Tables.lowest_free, Tables.next, Tables.open_at, Tables.open_entry, Tables.opening_of, Tables.stand_entry, Tables.standing_of, Tables.stands_in, Tables.stands_twice, Tables.table_closed, Tables.table_opened}
-pub use Rattle.streams.proofs.{Answering.identifier, Answering.rows, Elements.at_local, Elements.rows_ty, Querying.rows_at}
-pub use Rattle.walks.proofs.{Calling.Ensures, Calling.Fact, Calling.calls_ensuring, Calls.calls_data, Calls.given_data, Impossible.zero_one, Passing.Param, Passing.bytes, Passing.changed, Passing.clears, Passing.datum, Passing.ends_owning, Passing.meets_passing, Passing.output, Passing.passing, Passing.slots, Passing.takes_last, Passing.taking, Passing.values, Passing.word}
+pub use Rattle.walks.proofs.{Impossible.zero_one}
 pub use Rattle.wire.proofs.{Leaving.at_leaves, Leaving.if_leaves, Leaving.refuses_leaves, Leaving.varint_leaves, Parts.parted, Parts.starts_le, Reading.reads}
 pub use Rattle.wire.specs.{Bytes.Bytes, Claims.Leaves, Writing.Writing, Writing.writing, declared.units.Quarter.Quarter, declared.units.QuarterOf.QuarterOf, declared.units.StreamId.StreamId, declared.units.StreamOf.StreamOf, declared.varint.Varint.Varint, declared.varint.Varint.TheVariants.Incomplete, declared.varint.Varint.TheVariants.Whole, declared.varint.Written.Written, declared.varint.Written.TheVariants.Wrote}
 unfoldable pub use Rattle.wire.specs.{Bytes.bytes_of, Bytes.num, Bytes.num_from, Partial.held_bytes, Partial.is_partial, Partial.partial_of, Partial.starts, Partial.take_varint, Partial.taken_of, Units.is_request, Units.largest_quarter, Units.quarter_of, Units.stream_of, Varint.largest, Varint.read_varint, Varint.size_of, Varint.value_of, Writing.refuses, Writing.write_at}

@@ -66,7 +66,7 @@ use Rattle.answers.specs.Identifiers.{quarter_answer, stream_answer}
 use Rattle.answers.specs.OneShot.{listing_answer}
 use Rattle.capi.specs.Table as table
 use Rattle.stream_answers.specs.Table.{found_answer}
-use Rattle.capi.specs.Table.{stream_id, open_table, close_table}
+use Rattle.capi.specs.Table.{stream_id_of, open_table, close_table}
 use Rattle.stream_answers.specs.Frames.{judged_answer}
 use Rattle.answers.specs.AddressCapsules.{found_number, cursor, address_found, route_found}
 use Rattle.answers.specs.Messages.{message_of, field_said, field_answer, translation_answer}
@@ -168,11 +168,11 @@ abbrev streams : Table
 streams = rec 0 0 ∷ rec 64 15 ∷ rec 5 11 ∷ []
 
 abbrev stands : Table → ℕ → FoundAnswer
-stands t id = found_answer (standing_of t (table.stream_id id))
+stands t id = found_answer (standing_of t (table.stream_id_of id))
 
 -- for stream 256, whose quarter 64 has two bytes, into four bytes
 abbrev header : ℕ → ℕ → ℕ → ℕ → Answered
-header peer path n place = wrote_by (write_frame_header streams (table.stream_id 256) 1 peer path n (nines 4) place)
+header peer path n place = wrote_by (write_frame_header streams (table.stream_id_of 256) 1 peer path n (nines 4) place)
 
 pub record SendingCases : Type 0 where
   pub standings : map found_answer (standing.Refused (refusal 10) ∷ standing.At 0 ∷ standing.At 63 ∷ []) ≡ standing_so 10 0 ∷ standing_so 0 0 ∷ standing_so 0 63 ∷ []
@@ -193,7 +193,7 @@ pub record SendingCases : Type 0 where
       ∷ (header 1 70000 65536 1, wrote (wrote_so 6 0) (nines 4))
       ∷ (header 1 1001 1000 1, wrote (wrote_so 14 0) (nines 4))
       ∷ (header 1 1002 1000 3, wrote (wrote_so 5 0) (nines 4))
-      ∷ (wrote_by (write_frame_header streams (table.stream_id 20) 1 1 1200 4 (nines 4) 0), wrote (wrote_so 12 0) (nines 4))
+      ∷ (wrote_by (write_frame_header streams (table.stream_id_of 20) 1 1 1200 4 (nines 4) 0), wrote (wrote_so 12 0) (nines 4))
       ∷ [])
   pub datagrams :
       map (λ n. wrote_by (put_capsule (7 ∷ 8 ∷ []) (nines 6) n)) (1 ∷ 3 ∷ all ∷ []) ≡ wrote (wrote_so 0 4) (9 ∷ 0 ∷ 2 ∷ 7 ∷ 8 ∷ 9 ∷ []) ∷ wrote (wrote_so 5 0) (nines 6) ∷ wrote (wrote_so 5 0) (nines 6) ∷ []
@@ -328,7 +328,7 @@ pub record Cases : Type 0 where
       ≡ listed_so 16 0 0 0 ∷ listed_so 0 4 9 1 ∷ listed_so 0 4 9 2 ∷ []
   -- stream IDs: the smallest and the largest of a request stream, others, and numbers that are none
   pub quarters :
-      map (λ id. quarter_answer (quarter_of (stream_id id))) (0 ∷ 4 ∷ 5 ∷ (2 ^ 62 - 4) ∷ (2 ^ 62 - 1) ∷ (2 ^ 62) ∷ (2 ^ 64 - 4) ∷ [])
+      map (λ id. quarter_answer (quarter_of (stream_id_of id))) (0 ∷ 4 ∷ 5 ∷ (2 ^ 62 - 4) ∷ (2 ^ 62 - 1) ∷ (2 ^ 62) ∷ (2 ^ 64 - 4) ∷ [])
       ≡ quarter_so 0 0 ∷ quarter_so 0 1 ∷ quarter_so 7 0 ∷ quarter_so 0 (2 ^ 60 - 1) ∷ quarter_so 7 0 ∷ quarter_so 7 0 ∷ quarter_so 7 0 ∷ []
   pub stream-ids :
       map (λ q. stream_answer (stream_of (quarter q))) (0 ∷ 1 ∷ (2 ^ 60 - 1) ∷ (2 ^ 60) ∷ all ∷ [])

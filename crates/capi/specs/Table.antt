@@ -8,8 +8,8 @@ use Rattle.reader_words.specs.Numbers.{flag_of}
 use Rattle.answers.specs.Numbers.{side_of}
 use Rattle.stream_answers.specs.Table.{opened_answer, closed_answer}
 
-abbrev pub stream_id : ℕ → StreamId
-stream_id id = record { 0 = id }
+abbrev pub stream_id_of : ℕ → StreamId
+stream_id_of id = record { 0 = id }
 
 -- ---- opening: the answer, and the table afterwards
 
@@ -22,8 +22,8 @@ opened a t = record { answer = a; table = t }
 
 unfoldable pub open_table : Table → ℕ → ℕ → OpenDone
 open_table t id semantics =
-    let o = opening_of t (stream_id id) in
-    opened (opened_answer o) (table_opened t (stream_id id) (flag_of semantics) o)
+    let o = opening_of t (stream_id_of id) in
+    opened (opened_answer o) (table_opened t (stream_id_of id) (flag_of semantics) o)
 
 -- ---- closing a side: the answer, and the table afterwards
 
@@ -36,5 +36,5 @@ closed a t = record { answer = a; table = t }
 
 unfoldable pub close_table : Table → ℕ → ℕ → CloseDone
 close_table t id side =
-    let c = closing_of t (stream_id id) (side_of side) in
+    let c = closing_of t (stream_id_of id) (side_of side) in
     closed (closed_answer c) (table_closed t (side_of side) c)

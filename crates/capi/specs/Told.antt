@@ -76,7 +76,7 @@ use Rattle.reader_answers.specs.Reader.{fed_answer}
 use Rattle.reader_calls.specs.Reader.{opened_at, opened}
 use Rattle.stream_answers.specs.Table as table
 use Rattle.stream_answers.specs.Table.{opened_answer, found_answer}
-use Rattle.capi.specs.Table.{stream_id}
+use Rattle.capi.specs.Table.{stream_id_of}
 use Rattle.stream_answers.specs.Frames.{judged_answer}
 use Rattle.reader_answers.specs.Sight.{looked_answer}
 use Rattle.answers.specs.Identifiers.{quarter_answer, stream_answer}
@@ -143,7 +143,7 @@ unfoldable pub quarter_in : QuarterAnswer → QuarterOf
 quarter_in a = cond (eqb a.refusal 7) quarter_as.NotRequestStream (quarter_as.Is (quarter a.quarter))
 
 unfoldable pub stream_in : StreamIdAnswer → StreamOf
-stream_in a = cond (bit_in a.too_large) stream_as.TooLarge (stream_as.Is (stream_id a.stream_id))
+stream_in a = cond (bit_in a.too_large) stream_as.TooLarge (stream_as.Is (stream_id_of a.stream_id))
 
 unfoldable pub listed_in : ListingAnswer → Listed
 listed_in a = refused_or a.refusal listed.Refused (listed.Counted a.capsules a.headers (cond (eqb a.end 1) ending.Clean ending.Truncated))

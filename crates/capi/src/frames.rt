@@ -3,7 +3,7 @@ ghost use Rattle.std.specs.Prelude.{◌≡◌};
 ghost use Rattle.judging.specs.Judging.{judged_of};
 ghost use Rattle.sending.specs.Sending.{put_capsule, put_capsule_header, write_capsule, write_frame, write_frame_header};
 ghost use Rattle.capi.specs.Varint.{wrote, wrote_by};
-ghost use Rattle.capi.specs.Table.{stream_id};
+ghost use Rattle.capi.specs.Table.{stream_id_of};
 ghost use Rattle.stream_answers.specs.Frames.{judged_answer};
 
 use answers::varint::{WrittenAnswer, written_answer};
@@ -49,7 +49,7 @@ pub extern "C" fn mrz_write_capsule(
     out: &mut [u8],
     place: u64,
 ) -> WrittenAnswer
-    ensures { wrote result out.new ≡ wrote_by (write_capsule streams.now (stream_id stream_id) payload.now out.old place) }
+    ensures { wrote result out.new ≡ wrote_by (write_capsule streams.now (stream_id_of stream_id) payload.now out.old place) }
 {
     written_answer(write_capsule(streams, StreamId(stream_id), payload, out, place as usize))
 }
@@ -63,7 +63,7 @@ pub extern "C" fn mrz_write_frame(
     out: &mut [u8],
     place: u64,
 ) -> WrittenAnswer
-    ensures { wrote result out.new ≡ wrote_by (write_frame streams.now (stream_id stream_id) terms.our_setting terms.peer_setting terms.path_size payload.now out.old place) }
+    ensures { wrote result out.new ≡ wrote_by (write_frame streams.now (stream_id_of stream_id) terms.our_setting terms.peer_setting terms.path_size payload.now out.old place) }
 {
     written_answer(write_frame(
         streams,
@@ -87,7 +87,7 @@ pub extern "C" fn mrz_write_frame_header(
     out: &mut [u8],
     place: u64,
 ) -> WrittenAnswer
-    ensures { wrote result out.new ≡ wrote_by (write_frame_header streams.now (stream_id stream_id) terms.our_setting terms.peer_setting terms.path_size payload_length out.old place) }
+    ensures { wrote result out.new ≡ wrote_by (write_frame_header streams.now (stream_id_of stream_id) terms.our_setting terms.peer_setting terms.path_size payload_length out.old place) }
 {
     written_answer(write_frame_header(
         streams,

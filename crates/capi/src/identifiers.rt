@@ -2,14 +2,14 @@
 ghost use Rattle.std.specs.Prelude.{◌≡◌};
 ghost use Rattle.wire.specs.Units.{quarter_of, stream_of};
 ghost use Rattle.answers.specs.Identifiers.{quarter_answer, stream_answer};
-ghost use Rattle.capi.specs.Table.{stream_id};
+ghost use Rattle.capi.specs.Table.{stream_id_of};
 
 use answers::identifiers::{QuarterAnswer, StreamIdAnswer, quarter_answer, stream_answer};
 use wire::units::{Quarter, StreamId};
 
 #[unsafe(no_mangle)]
 pub extern "C" fn mrz_quarter_of(stream_id: u64) -> QuarterAnswer
-    ensures { result ≡ quarter_answer (quarter_of (stream_id stream_id)) }
+    ensures { result ≡ quarter_answer (quarter_of (stream_id_of stream_id)) }
 {
     quarter_answer(StreamId(stream_id).quarter())
 }

@@ -2,7 +2,7 @@
 ghost use Rattle.std.specs.Prelude.{◌≡◌};
 ghost use Rattle.stream_records.specs.Tables.{standing_of};
 ghost use Rattle.stream_answers.specs.Table.{found_answer};
-ghost use Rattle.capi.specs.Table.{stream_id, opened, open_table, closed, close_table};
+ghost use Rattle.capi.specs.Table.{stream_id_of, opened, open_table, closed, close_table};
 
 use answers::numbers::side_of;
 use reader_words::numbers::flag_of;
@@ -37,7 +37,7 @@ pub extern "C" fn mrz_stream_close(
 
 #[unsafe(no_mangle)]
 pub extern "C" fn mrz_stream_find(streams: &[StreamRecord], stream_id: u64) -> FoundAnswer
-    ensures { result ≡ found_answer (standing_of streams.now (stream_id stream_id)) }
+    ensures { result ≡ found_answer (standing_of streams.now (stream_id_of stream_id)) }
 {
     found_answer(find_stream(streams, StreamId(stream_id)))
 }

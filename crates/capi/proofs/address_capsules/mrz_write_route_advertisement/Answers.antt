@@ -1,0 +1,8 @@
+-- The writer's promise, with its answer in numbers.
+use Rattle.walks.proofs.Words.{ap, rules}
+use Rattle.capi.proofs.Terms.{wrote_by}
+use Rattle.capi.proofs.address_capsules.mrz_write_route_advertisement.Goals as goal
+
+pub returns : goal.returns
+unfolding wrote_by
+returns c = rw c.written_answer.ensures (ap wrote_by c.write_routes-written.ensures)

@@ -1,0 +1,8 @@
+-- `mrz_write_capsule`: what `write_capsule` did, in numbers. Assumes nothing.
+use Rattle.walks.proofs.Words.{ap, rules}
+use Rattle.capi.proofs.Terms.{wrote_by}
+use Rattle.capi.proofs.frames.mrz_write_capsule.Goals as goal
+
+pub returns : goal.returns
+unfolding wrote_by
+returns c = rw c.written_answer.ensures (ap wrote_by c.write_capsule.ensures)

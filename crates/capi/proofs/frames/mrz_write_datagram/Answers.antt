@@ -1,0 +1,8 @@
+-- `mrz_write_datagram`: what `write_datagram` did, in numbers. Assumes nothing.
+use Rattle.walks.proofs.Words.{ap, rules}
+use Rattle.capi.proofs.Terms.{wrote_by}
+use Rattle.capi.proofs.frames.mrz_write_datagram.Goals as goal
+
+pub returns : goal.returns
+unfolding wrote_by
+returns c = rw c.written_answer.ensures (ap wrote_by c.write_datagram.ensures)

@@ -1,0 +1,6 @@
+-- What the two calls promise, one after the other.
+use Rattle.walks.proofs.Words.{rules}
+use Rattle.capi.proofs.messages.mrz_field_in_use.Goals as goal
+
+pub returns : goal.returns
+returns c = rw (c.field_answer.ensures, c.read_field.ensures)

@@ -1,0 +1,6 @@
+-- The numbers read as flags, then what the two calls promise.
+use Rattle.walks.proofs.Words.{rules}
+use Rattle.capi.proofs.messages.mrz_request_malformed.Goals as goal
+
+pub returns : goal.returns
+returns c = rw (c.bit_of.ensures, c.request_malformed.ensures, c.flag_of-3.ensures, c.flag_of-2.ensures, c.flag_of.ensures)

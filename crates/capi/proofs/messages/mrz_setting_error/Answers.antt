@@ -1,0 +1,6 @@
+-- What the calls promise, one after the other.
+use Rattle.walks.proofs.Words.{rules}
+use Rattle.capi.proofs.messages.mrz_setting_error.Goals as goal
+
+pub returns : goal.returns
+returns c = rw (c.error_number.ensures, c.error.ensures, c.received-setting.ensures)

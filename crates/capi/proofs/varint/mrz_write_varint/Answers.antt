@@ -1,0 +1,8 @@
+-- The writer's promise, with its answer in numbers.
+use Rattle.walks.proofs.Words.{ap, rules}
+use Rattle.capi.proofs.Terms.{wrote_by}
+use Rattle.capi.proofs.varint.mrz_write_varint.Goals as goal
+
+pub returns : goal.returns
+unfolding wrote_by
+returns c = rw c.written_answer.ensures (ap wrote_by c.write_varint-written.ensures)
