@@ -15,7 +15,7 @@ pub use Rattle.refusals.specs.{declared.Refusal.Refusal}
 pub use Rattle.text_lines.proofs.{Placing.sets_then}
 pub use Rattle.text_lines.specs.{Lines.longest, Writing.Writing, Writing.writing, declared.Line.Line, declared.Line.TheVariants.Written}
 unfoldable pub use Rattle.text_lines.specs.{Writing.write_at}
-pub use Rattle.walks.proofs.{Impossible.no_true, Impossible.zero_one}
+pub use Rattle.walks.proofs.{Impossible.zero_one}
 pub use Rattle.wire.proofs.{Numbers.bytes_drop, Numbers.bytes_each, Numbers.bytes_take}
 pub use Rattle.wire.specs.{Bytes.Bytes}
 unfoldable pub use Rattle.wire.specs.{Partial.is_partial, Partial.starts}
