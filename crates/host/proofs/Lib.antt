@@ -1,5 +1,2 @@
 mod Terms
 pub mod Refusals
-pub mod Structs
-pub mod Facts
-pub mod ReaderField
