@@ -1,5 +1,5 @@
 -- Calls that go on where the one before ended hand out a value's entries. Assumes nothing.
-use Rattle.walks.proofs.Words.{◌≡◌, refl, sym, ap, ◌∙◌, Option·map, ℕ, zero, suc, ◌+◌, ◌-◌, ◌<◌, arith, List, [], ◌∷◌, ◌++◌, map, length, take, drop, length-drop, length-append, drop-drop, drop-append_seam}
+use Rattle.walks.proofs.Words.{◌≡◌, refl, sym, ap, ◌∙◌, option_map, ℕ, zero, suc, ◌+◌, ◌-◌, ◌<◌, arith, List, [], ◌∷◌, ◌++◌, map, length, take, drop, length-drop, length-append, drop-drop, drop-append_seam}
 use Rattle.address_cursor.proofs.Terms.{Cursor, Step, done, malformed, next, entries, entry_at, range_at, behind, answer_for, answer_at, collected, handed_from, address_of, blank_address, address_answer, next_address, range_of, blank_range, range_answer, next_range, HandsOut, SteppedExactly, entries-end, entries_malformed, entries_next, map-ahead, entry_front, entry_shrinks, range_front, range_shrinks}
 
 -- the place behind an entry
@@ -17,8 +17,8 @@ module _ {A B : Type 0} (read : List ℕ → Step A) (form : A → B) (blank : B
   hands_out v c zero h = absurd (let z : ⊥ = omega arith in z)
   hands_out v c (suc calls) h = go (λ d. hands_out v d calls) (read (drop c.at v)) refl
     where
-      go : ((d : Cursor) → length (drop d.at v) < calls → handed_from (answer_at read form blank v) calls d ≡ Option·map (map form) (entries read (drop d.at v)))
-          → (s : Step A) → read (drop c.at v) ≡ s → handed_from (answer_at read form blank v) (suc calls) c ≡ Option·map (map form) (entries read (drop c.at v))
+      go : ((d : Cursor) → length (drop d.at v) < calls → handed_from (answer_at read form blank v) calls d ≡ option_map (map form) (entries read (drop d.at v)))
+          → (s : Step A) → read (drop c.at v) ≡ s → handed_from (answer_at read form blank v) (suc calls) c ≡ option_map (map form) (entries read (drop c.at v))
       go again done e = rw (e, entries-end read shrinks (drop c.at v) e)
       go again malformed e = rw (e, entries_malformed read shrinks (drop c.at v) e)
       go again (next a rest) e =

@@ -1,5 +1,5 @@
 -- Entries one after another. Assumes nothing.
-use Rattle.walks.proofs.Words.{◌≡◌, refl, sym, ap, ◌∙◌, Bool, true, false, ◌&&◌, and-false, Option, none, some, Option·map, ℕ, zero, suc, ◌<◌, arith, List, [], ◌∷◌, map, length}
+use Rattle.walks.proofs.Words.{◌≡◌, refl, sym, ap, ◌∙◌, Bool, true, false, ◌&&◌, and-false, Option, none, some, option_map, ℕ, zero, suc, ◌<◌, arith, List, [], ◌∷◌, map, length}
 use Rattle.addresses.proofs.Terms.{Step, done, malformed, next, ahead, onwards, entries_by, entries, are_good}
 
 -- by `cc`, from two constructors that would be equal
@@ -64,7 +64,7 @@ module _ {A : Type 0} (read : List ℕ → Step A) (shrinks : Shrinks read) wher
         go none = unfold are_good ahead in sym (and-false t)
         go (some es) = unfold are_good ahead in f es
 
-pub map-ahead : {A B : Type 0} (form : A → B) (e : A) (es : Option (List A)) → Option·map (map form) (ahead e es) ≡ ahead (form e) (Option·map (map form) es)
+pub map-ahead : {A B : Type 0} (form : A → B) (e : A) (es : Option (List A)) → option_map (map form) (ahead e es) ≡ ahead (form e) (option_map (map form) es)
 unfolding ahead
 map-ahead form e none = refl
 map-ahead form e (some es) = refl
@@ -76,17 +76,17 @@ map_step form (next e rest) = next (form e) rest
 
 -- two readings that go together
 module _ {A B : Type 0} (form : A → B) (read : List ℕ → Step A) (other : List ℕ → Step B) (alike : (v : List ℕ) → other v ≡ map_step form (read v)) where
-  map_by : (fuel : ℕ) (v : List ℕ) → Option·map (map form) (entries_by read fuel v) ≡ entries_by other fuel v
+  map_by : (fuel : ℕ) (v : List ℕ) → option_map (map form) (entries_by read fuel v) ≡ entries_by other fuel v
   unfolding entries_by onwards map_step
   map_by zero v = refl
   map_by (suc fuel) v = rw (alike v) (go (map_by fuel) (read v))
     where
-      go : ((t : List ℕ) → Option·map (map form) (entries_by read fuel t) ≡ entries_by other fuel t) → (s : Step A)
-          → Option·map (map form) (onwards s (entries_by read fuel)) ≡ onwards (map_step form s) (entries_by other fuel)
+      go : ((t : List ℕ) → option_map (map form) (entries_by read fuel t) ≡ entries_by other fuel t) → (s : Step A)
+          → option_map (map form) (onwards s (entries_by read fuel)) ≡ onwards (map_step form s) (entries_by other fuel)
       go again done = refl
       go again malformed = refl
       go again (next e rest) = map-ahead form e (entries_by read fuel rest) ∙ ap (ahead (form e)) (again rest)
 
-  pub entries-map : (v : List ℕ) → Option·map (map form) (entries read v) ≡ entries other v
+  pub entries-map : (v : List ℕ) → option_map (map form) (entries read v) ≡ entries other v
   unfolding entries
   entries-map v = map_by (suc (length v)) v

@@ -1,5 +1,5 @@
 -- RFC 8941's rules in words. Assumes nothing.
-use Rattle.walks.proofs.Words.{◌≡◌, refl, sym, ap, subst, ◌∙◌, ◌↔◌, ◌⊎◌, inl, inr, ⊎_elim, Iff·rfl, Bool, true, ◌||◌, or-true, ℕ, List, [], ◌∷◌, ◌++◌, length, append-nil, eqb-true, eq-eqb}
+use Rattle.walks.proofs.Words.{◌≡◌, refl, sym, ap, subst, ◌∙◌, ◌↔◌, ◌⊎◌, inl, inr, ⊎_elim, iff_rfl, Bool, true, ◌||◌, or-true, ℕ, List, [], ◌∷◌, ◌++◌, length, append-nil, eqb-true, eq-eqb}
 use Rattle.capsule_protocol.proofs.Terms.{Rule, Class, one, every, up_to, optional, ◌then◌, many, is, is_space, is_digit, is_key_start, is_key_byte, is_unescaped, is_escapable, is_token_start, is_token_byte, is_base64, is_bit, sf_integer, sf_decimal, chr, sf_string, sf_token, sf_binary, sf_boolean, bare_item, key, parameter, parameters, sf_item, spaces, In, joined, AllIn, Digits, Signed, IntegerExactly, DecimalExactly, CharacterExactly, StringExactly, TokenExactly, ByteSequenceExactly, BooleanExactly, BareItemExactly, KeyExactly, ParameterExactly, AllParameters, ParametersExactly, ItemExactly}
 use Rattle.capsule_protocol.proofs.Exactly.{only_spaces, spaces_only, or_cases, empty_exactly, one_exactly, up_to_exactly, then_exactly, then_so, many_exactly}
 
@@ -159,7 +159,7 @@ boolean_exactly s = (only, ⊎_elim (so 0x30 refl) (so 0x31 refl))
 
 pub bare_item_exactly : BareItemExactly
 unfolding bare_item
-bare_item_exactly s = either _ _ Iff·rfl (either _ _ Iff·rfl (either _ _ Iff·rfl (either _ _ Iff·rfl (either _ _ Iff·rfl Iff·rfl))))
+bare_item_exactly s = either _ _ iff_rfl (either _ _ iff_rfl (either _ _ iff_rfl (either _ _ iff_rfl (either _ _ iff_rfl iff_rfl))))
 
 -- ---- parameters
 

@@ -1,5 +1,5 @@
 -- Settings and messages, decided at every number. Assumes nothing.
-use Rattle.walks.proofs.Words.{◌≡◌, refl, ap, ◌↔◌, ◌⊎◌, inl, inr, ⊎_elim, Iff·trans, Iff·and, Iff·rfl, Bool, true, false, cond, ◌||◌, ◌&&◌, ℕ, ◌≤◌, ◌<◌, leb, ltb, eqb, leb-true, le-leb, ltb-true, ltb-false, lt-ltb, le-ltb, eqb-true, eq-eqb}
+use Rattle.walks.proofs.Words.{◌≡◌, refl, ap, ◌↔◌, ◌⊎◌, inl, inr, ⊎_elim, iff_trans, iff_and, iff_rfl, Bool, true, false, cond, ◌||◌, ◌&&◌, ℕ, ◌≤◌, ◌<◌, leb, ltb, eqb, leb-true, le-leb, ltb-true, ltb-false, lt-ltb, le-ltb, eqb-true, eq-eqb}
 use Rattle.http_messages.proofs.Terms.{both, parted, zero_one, HttpError, NoError, Is, Accepted, Bad, SettingExactly, RequestMalformedExactly, ResponseMalformedExactly, FieldCountsExactly, SettingErrorExactly, number, request_malformed, response_malformed, field_counts, received_setting, setting_error}
 
 -- ---- tests joined
@@ -23,7 +23,7 @@ is_number a b = (eqb-true a b, eq-eqb a b)
 
 pub request_malformed_exactly : RequestMalformedExactly
 unfolding request_malformed
-request_malformed_exactly a b c = one_of_three a b c Iff·rfl Iff·rfl Iff·rfl
+request_malformed_exactly a b c = one_of_three a b c iff_rfl iff_rfl iff_rfl
 
 pub response_malformed_exactly : ResponseMalformedExactly
 unfolding response_malformed
@@ -55,11 +55,11 @@ above_or_below : (value stored : ℕ) → (ltb 1 value || ltb value stored ≡ t
 above_or_below value stored = either _ _ (ltb-true 1 value, lt-ltb 1 value) (ltb-true value stored, lt-ltb value stored)
 
 within : (value stored : ℕ) → (ltb 1 value || ltb value stored ≡ false) ↔ (value ≤ 1) × (stored ≤ value)
-within value stored = Iff·trans (neither _ _) (Iff·and (ltb-false 1 value, le-ltb 1 value) (ltb-false value stored, le-ltb value stored))
+within value stored = iff_trans (neither _ _) (iff_and (ltb-false 1 value, le-ltb 1 value) (ltb-false value stored, le-ltb value stored))
 
 bad_exactly : (value stored : ℕ) → (received_setting value stored ≡ Bad) ↔ (1 < value) ⊎ (value < stored)
 unfolding received_setting
-bad_exactly value stored = Iff·trans (bad _ value) (above_or_below value stored)
+bad_exactly value stored = iff_trans (bad _ value) (above_or_below value stored)
 
 pub setting_exactly : SettingExactly
 unfolding received_setting

@@ -1,5 +1,5 @@
 -- Decimal text. Assumes nothing.
-use Rattle.walks.proofs.Words.{◌≡◌, refl, sym, ap, ◌∙◌, ℕ, zero, suc, ◌+◌, ◌-◌, ◌*◌, ◌/◌, ◌%◌, ◌^◌, ◌≤◌, ◌<◌, div-one, div-div-eq-div-mul, pow-suc, pow-succ', one-le-pow, arith, List, [], ◌∷◌, ◌++◌, append-nil, append_assoc, length, get_or, length-append, List·getD-append, mod-mul, lit<, lt-ltb, le-ltb}
+use Rattle.walks.proofs.Words.{◌≡◌, refl, sym, ap, ◌∙◌, ℕ, zero, suc, ◌+◌, ◌-◌, ◌*◌, ◌/◌, ◌%◌, ◌^◌, ◌≤◌, ◌<◌, div-one, div-div-eq-div-mul, pow-suc, pow-succ', one-le-pow, arith, List, [], ◌∷◌, ◌++◌, append-nil, append_assoc, length, get_or, length-append, get_or-append, mod-mul, lit<, lt-ltb, le-ltb}
 use Rattle.text_lines.proofs.Terms.{split, text, last_digit, digits, decimal_by, decimal, value_from, value, AllDigits, ReadBack, DigitsOnly, NoLeadingZero}
 
 -- ---- digit by digit
@@ -77,7 +77,7 @@ unfolding last_digit
 spelt_first (alone h) p = (omega arith, omega arith)
 spelt_first {n} (behind {s = s} h r) p =
     let f = spelt_first r (omega arith) in
-    (omega (arith, length-append s (last_digit n ∷ [])), rw (List·getD-append s (last_digit n ∷ []) 0 0 f.0) f.1)
+    (omega (arith, length-append s (last_digit n ∷ [])), rw (get_or-append s (last_digit n ∷ []) 0 0 f.0) f.1)
 
 pub no_leading_zero : NoLeadingZero
 unfolding decimal decimal_by last_digit text
