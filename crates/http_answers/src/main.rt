@@ -1,11 +1,11 @@
 // Prints what the crates http_messages, capsule_protocol and http_errors answer, a line for each question.
 #![tactic(auto)]
 
-mod answers;
+mod printing;
 
-use answers::{message, setting, translation, value};
 use http_messages::errors::HttpError;
 use http_messages::messages::Message;
+use printing::{message, setting, translation, value};
 use std::io;
 
 fn row(rt: &impl Print, error: HttpError) -> io::Result<()> {
