@@ -71,6 +71,7 @@ pub fn look(reader: Reader) -> Looked
     })
 }
 
+#[tactic(auto, unfolding(crate::specs::Looking::place_of))]
 fn place_of(opening: Opening, phase: Phase) -> Place
     requires { is_makeable_phase opening phase ≡ true }
     ensures { result ≡ place_of opening phase }

@@ -127,6 +127,7 @@ pub fn copied(words: &[u64; 8]) -> [u64; 8]
 }
 
 // The phase by its number and the three words behind it.
+#[tactic(auto, unfolding(crate::specs::Words::phase_in))]
 fn load_phase(kind: u64, a: u64, b: u64, c: u64) -> LoadedPhase
     ensures { result ≡ phase_in kind a b c }
 {

@@ -1,5 +1,5 @@
 -- The two tests are the two conditions of the definition.
-use Rattle.walks.proofs.Words.{sym, ◌∙◌, rules}
+use Rattle.walks.proofs.Words.{sym, ◌∙◌}
 use Rattle.look.proofs.Terms.{buffer_of}
 use Rattle.look.proofs.buffer_of.Goals as goal
 

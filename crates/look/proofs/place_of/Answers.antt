@@ -1,19 +1,11 @@
 -- One answer for each phase; that a makeable value has no more bytes to come than its extent is `makeable_value`.
-use Rattle.walks.proofs.Words.{◌≡◌, subst, true, eq-eqb, ne_eqb, rules}
+use Rattle.walks.proofs.Words.{◌≡◌, subst, true}
 use Rattle.look.proofs.Terms.{Phase, is_makeable_phase, makeable_value, place_of}
 use Rattle.look.proofs.place_of.Goals as goal
 
-pub returns-then-part-eq0 : goal.returns-then-part-eq0
-unfolding place_of
-returns-then-part-eq0 c = rw (c.in-InType.is, eq-eqb _ _ c.if-part-eq0.true)
-
 pub overflow_sub-extent : goal.overflow_sub-extent
 unfolding place_of
-overflow_sub-extent c =     let a = c.args in     let m = makeable_value a.opening _ _ _ (subst (λ (p : Phase). is_makeable_phase a.opening p ≡ true) c.in-InValue.is c.requires) in     rw c.extent.ensures m
-
-pub returns-else-part-eq0 : goal.returns-else-part-eq0
-unfolding place_of
-returns-else-part-eq0 c = rw (c.in-InType.is, ne_eqb _ _ c.if-part-eq0.false)
+overflow_sub-extent c = let a = c.args in let m = makeable_value a.opening _ _ _ (subst (λ (p : Phase). is_makeable_phase a.opening p ≡ true) c.in-InValue.is c.requires) in rw c.extent.ensures m
 
 pub returns-in-InLength : goal.returns-in-InLength
 unfolding place_of

@@ -1,6 +1,5 @@
 -- One answer for each buffer.
 use Rattle.look.proofs.Terms.{stored_in}
-use Rattle.walks.proofs.Words.{rules}
 use Rattle.look.proofs.stored_in.Goals as goal
 
 pub returns-in-Neither : goal.returns-in-Neither

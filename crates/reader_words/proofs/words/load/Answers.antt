@@ -1,5 +1,5 @@
 -- What passes the four tests is read by its phase: `reads_so`, `reads_not`.
-use Rattle.walks.proofs.Words.{sym, ◌∙◌, arith, rules}
+use Rattle.walks.proofs.Words.{sym, ◌∙◌, arith}
 use Rattle.reader_words.proofs.Terms.{reader_mark, with_phase}
 use Rattle.reader_words.proofs.StoredForm.{reads_so, reads_not}
 use Rattle.reader_words.proofs.words.load.Goals as goal

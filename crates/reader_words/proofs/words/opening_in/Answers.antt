@@ -1,6 +1,5 @@
 -- Each field is what its function reads.
 use Rattle.reader_words.proofs.Terms.{opening_in}
-use Rattle.walks.proofs.Words.{rules}
 use Rattle.reader_words.proofs.words.opening_in.Goals as goal
 
 pub returns : goal.returns

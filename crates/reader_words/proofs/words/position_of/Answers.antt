@@ -1,5 +1,5 @@
 -- The tests are the definition's: `is_within`, `is_between`, `is_other` of Position.
-use Rattle.walks.proofs.Words.{arith, rules}
+use Rattle.walks.proofs.Words.{arith}
 use Rattle.reader_words.proofs.Terms.{reader_mark}
 use Rattle.reader_words.proofs.Position.{is_other, is_between, is_within}
 use Rattle.reader_words.proofs.words.position_of.Goals as goal

@@ -1,6 +1,5 @@
 -- One answer for each role.
 use Rattle.reader_words.proofs.Terms.{reader_mark, role_word}
-use Rattle.walks.proofs.Words.{rules}
 use Rattle.reader_words.proofs.words.role_word.Goals as goal
 
 pub returns-in-Endpoint : goal.returns-in-Endpoint

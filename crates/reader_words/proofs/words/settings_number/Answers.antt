@@ -1,5 +1,5 @@
 -- By the two flags.
-use Rattle.walks.proofs.Words.{sym, ◌∙◌, add-zero, rules}
+use Rattle.walks.proofs.Words.{sym, ◌∙◌, add-zero}
 use Rattle.reader_words.proofs.Terms.{bit_of, settings_number}
 use Rattle.reader_words.proofs.words.settings_number.Goals as goal
 

@@ -1,6 +1,5 @@
 -- One list of words for each phase.
 use Rattle.reader_words.proofs.Terms.{words_of, phase_words}
-use Rattle.walks.proofs.Words.{rules}
 use Rattle.reader_words.proofs.words.words_of.Goals as goal
 
 pub returns-in-InType : goal.returns-in-InType
