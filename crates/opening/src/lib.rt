@@ -80,6 +80,7 @@ impl Opening {
     }
 
     // Whether the value of such a capsule goes to the second buffer.
+    #[tactic(auto, unfolding(crate::specs::Kinds::keeps, crate::specs::Kinds::keeps_by, addresses::specs::Addresses::longest_address_value))]
     pub fn keeps(self, ctype: u64, length: u64) -> bool
         ensures { result ≡ keeps self ctype length }
     {
@@ -91,6 +92,7 @@ impl Opening {
     }
 
     // How many value bytes complete such a capsule.
+    #[tactic(auto, unfolding(crate::specs::Kinds::extent_of, crate::specs::Kinds::extent_by, addresses::specs::Addresses::longest_address_value))]
     pub fn extent(self, ctype: u64, length: u64) -> u64
         ensures { result ≡ extent_of self ctype length }
     {
@@ -124,6 +126,7 @@ impl Opening {
     }
 
     // What is reported of a capsule of this type and length when it ends; the value of an address capsule is still to be judged.
+    #[tactic(auto, unfolding(crate::specs::Kinds::report_of, crate::specs::Kinds::report_by, addresses::specs::Addresses::longest_address_value))]
     pub fn report(self, ctype: u64, length: u64) -> Report
         ensures { result ≡ report_of self ctype length }
     {
@@ -191,6 +194,7 @@ impl Kind {
 }
 
 // What the lengths of the piece and of the lent buffers refuse.
+#[tactic(auto, unfolding(crate::specs::Lent::lent_verdict, crate::specs::Lent::addresses_verdict, crate::specs::Lent::output_verdict, crate::specs::Kinds::opted, crate::specs::Kinds::opted_by, addresses::specs::Addresses::longest_address_value))]
 pub fn lent_verdict(
     op: Opening,
     piece: usize,

@@ -1,6 +1,5 @@
 -- By cases of the report.
 use Rattle.opening.proofs.Terms.{finishes}
-use Rattle.walks.proofs.Words.{rules}
 use Rattle.opening.proofs.is_last_report.Goals as goal
 
 pub returns-in-Delivered : goal.returns-in-Delivered

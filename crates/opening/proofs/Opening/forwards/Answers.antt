@@ -1,5 +1,5 @@
 -- By cases of the role and of the kind.
-use Rattle.walks.proofs.Words.{sym, ◌∙◌, rules}
+use Rattle.walks.proofs.Words.{sym, ◌∙◌}
 use Rattle.opening.proofs.Terms.{forwards_by, forwards}
 use Rattle.opening.proofs.Opening.forwards.Goals as goal
 

@@ -1,5 +1,5 @@
 -- By cases of the kind.
-use Rattle.walks.proofs.Words.{sym, ◌∙◌, rules}
+use Rattle.walks.proofs.Words.{sym, ◌∙◌}
 use Rattle.opening.proofs.Terms.{gathers_by, gathers}
 use Rattle.opening.proofs.Opening.gathers.Goals as goal
 

@@ -1,5 +1,5 @@
 -- By the tests in their order; a law of Kinding for each answer.
-use Rattle.walks.proofs.Words.{sym, ◌∙◌, rules}
+use Rattle.walks.proofs.Words.{sym, ◌∙◌}
 use Rattle.opening.proofs.Kinding.{kind_zero, kind_address, kind_draft, kind_other, kind_plain}
 use Rattle.opening.proofs.Opening.kind.Goals as goal
 

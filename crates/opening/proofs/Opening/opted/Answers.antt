@@ -1,6 +1,5 @@
 -- By cases of the role.
 use Rattle.opening.proofs.Terms.{opted_by, opted}
-use Rattle.walks.proofs.Words.{rules}
 use Rattle.opening.proofs.Opening.opted.Goals as goal
 
 pub returns-in-Endpoint : goal.returns-in-Endpoint

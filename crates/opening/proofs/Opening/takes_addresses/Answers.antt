@@ -1,5 +1,5 @@
 -- Types 1 to 3 by the laws `zero_type` and `type_to-three`.
-use Rattle.walks.proofs.Words.{sym, ◌∙◌, not-true, not-false, rules}
+use Rattle.walks.proofs.Words.{sym, ◌∙◌}
 use Rattle.opening.proofs.Kinding.{none_taken, type_taken, zero_type, type_to-three}
 use Rattle.opening.proofs.Opening.takes_addresses.Goals as goal
 
