@@ -165,6 +165,7 @@ fn clear_beyond(value: &[u8], at: usize, width: usize, prefix: u64) -> bool
 }
 
 // The last 8 - p bits of a byte are 0.
+#[tactic(auto, using(crate::proofs::Runs::shift_is, crate::proofs::Runs::shift_pos, crate::proofs::Runs::clear_whole))]
 fn clear_byte(b: u8, p: u64) -> bool
     ensures { result ≡ eqb (b % 2 ^ (8 - p)) 0 }
 {

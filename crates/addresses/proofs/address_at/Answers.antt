@@ -1,5 +1,5 @@
 -- By the tests: the laws `address_none`, `address-short` and `address-whole` of Reading.
-use Rattle.walks.proofs.Words.{arith, ◌≡◌, get_or, rules}
+use Rattle.walks.proofs.Words.{arith, ◌≡◌, get_or}
 use Rattle.addresses.proofs.Terms.{width_of}
 use Rattle.addresses.proofs.Reading as L
 use Rattle.addresses.proofs.address_at.Goals as goal

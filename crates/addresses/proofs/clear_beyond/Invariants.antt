@@ -1,5 +1,5 @@
 -- Invariant: the bits left, of the bytes left, are clear exactly if all are; the law `clear_turn` of Runs does a byte.
-use Rattle.walks.proofs.Words.{not-true, not-false, arith, rules, ◌≡◌, ◌∙◌, ◌-◌, ◌≤◌, take, drop}
+use Rattle.walks.proofs.Words.{◌≡◌, ◌-◌, ◌≤◌, take, drop}
 use Rattle.addresses.proofs.Terms.{clear_beyond}
 use Rattle.addresses.proofs.Runs as R
 use Rattle.addresses.proofs.clear_beyond.Given as goal

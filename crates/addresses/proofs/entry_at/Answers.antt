@@ -1,6 +1,6 @@
 -- By what `read_varint` answers: the laws `entry-end`, `entry_cut` and `entry_goes_on` of Reading.
 use Rattle.addresses.proofs.Terms.{read_varint, Whole}
-use Rattle.walks.proofs.Words.{arith, ◌≡◌, sym, ◌∙◌, ap, ◌+◌, ◌≤◌, drop, length, rules}
+use Rattle.walks.proofs.Words.{arith, ◌≡◌, sym, ◌∙◌, ap, ◌+◌, ◌≤◌, drop, length}
 use Rattle.addresses.proofs.Reading as L
 use Rattle.addresses.proofs.entry_at.Goals as goal
 use Rattle.addresses.proofs.entry_at.Goals.{After-read_varint, In-Whole}

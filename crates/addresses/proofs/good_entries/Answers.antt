@@ -1,6 +1,6 @@
 -- Invariant: the entries left are good exactly if all are; the law `turn` of Judging does an entry, by what `entry_at` finds.
 -- the entry is judged by `good_entry` alone
-use Rattle.walks.proofs.Words.{eq-eqb, ne_eqb, ◌≡◌, sym, ◌∙◌, refl, Bool, cond, ◌&&◌, false, true, ⊎_elim, ◌+◌, ◌-◌, ◌≤◌, arith, length, drop, rules, not-true, not-false}
+use Rattle.walks.proofs.Words.{eq-eqb, ne_eqb, ◌≡◌, sym, ◌∙◌, refl, Bool, cond, ◌&&◌, false, true, ⊎_elim, ◌+◌, arith, drop}
 use Rattle.addresses.proofs.Terms.{Entry, entries, entry_at, are_good, all_of, good_entry, asks, entry_in, Inside}
 use Rattle.addresses.specs.declared.Place.TheVariants as place
 use Rattle.addresses.proofs.Judging as J

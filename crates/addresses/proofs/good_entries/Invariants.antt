@@ -1,9 +1,7 @@
 -- Invariant: the entries left are good exactly if all are; the law `turn` of Judging does an entry, by what `entry_at` finds.
 -- the entry is judged by `good_entry` alone
-use Rattle.walks.proofs.Words.{◌≡◌, sym, ◌∙◌, refl, Bool, cond, ◌&&◌, false, true, ⊎_elim, ◌+◌, ◌-◌, ◌≤◌, arith, length, drop, rules, not-true, not-false}
-use Rattle.addresses.proofs.Terms.{Entry, entries, entry_at, are_good, all_of, good_entry, asks, entry_in, Inside}
-use Rattle.addresses.specs.declared.Place.TheVariants as place
-use Rattle.addresses.proofs.Judging as J
+use Rattle.walks.proofs.Words.{◌≡◌, cond, ◌-◌, ◌≤◌, length, drop}
+use Rattle.addresses.proofs.Terms.{entries, entry_at, are_good, all_of, good_entry, asks}
 use Rattle.addresses.proofs.good_entries.Given as goal
 
 abbrev pub invariant-loop-id : goal.invariant-loop-id

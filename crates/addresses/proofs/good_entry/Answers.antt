@@ -1,5 +1,5 @@
 -- A prefix longer than the address: the law `entry-long` of Judging; otherwise `entry-short`.
-use Rattle.walks.proofs.Words.{◌∙◌, rules}
+use Rattle.walks.proofs.Words.{◌∙◌}
 use Rattle.addresses.proofs.Judging as J
 use Rattle.addresses.proofs.good_entry.Goals as goal
 
