@@ -1,6 +1,6 @@
 -- What a feeding is to do. Assumes nothing.
 use Rattle.walks.proofs.Words.{◌≡◌, refl, ℕ, ◌+◌, ◌-◌, ◌≤◌, ◌<◌, arith, Bool, true, false, cond, ◌&&◌, ◌||◌, List, ◌++◌, length, take, drop, length-append, length-drop, take_all, leb, ltb, eqb, le-leb, lt-leb, leb-true, leb-false}
-use Rattle.planning.proofs.Terms.{zero_one, no_true, Varint, Incomplete, Whole, Partial, VarintTaken, Impossible, More, Ends, largest, read_varint, held_bytes, starts, is_partial, taken_of, take_varint, length-bytes_of, reads, parted, starts_le, Role, Endpoint, Intermediary, Kind, Datagram, Address, Unknown, Opening, Plan, Phase, InType, InLength, InValue, Nothing, Capsule, longest_address_value, opted, kind_of, extent_by, extent_of, report_of, forwards_by, forwards, gathers_by, gathers, keeps_by, keeps, no_bytes, is_makeable_phase, plan_value, plan_head, plan_length, plan_type, plan_of, held_of}
+use Rattle.planning.proofs.Terms.{zero_one, no_true, Varint, Incomplete, Whole, Partial, VarintTaken, Impossible, More, Ends, largest, read_varint, held_bytes, is_partial, taken_of, take_varint, length-bytes_of, reads, parted, starts_le, Role, Endpoint, Intermediary, Kind, Datagram, Address, Unknown, Opening, Plan, Phase, InType, InLength, InValue, Nothing, Capsule, longest_address_value, opted, kind_of, extent_by, extent_of, report_of, forwards_by, forwards, gathers_by, gathers, keeps_by, keeps, no_bytes, is_makeable_phase, plan_value, plan_head, plan_length, plan_type, plan_of, held_of}
 
 -- ---- a varint that goes on
 

@@ -68,6 +68,7 @@ pub enum Header {
 }
 
 // A type of one byte and a length of one or two, as most capsules have, at the front of a piece.
+#[tactic(auto, using(crate::proofs::Reaching::header_few, crate::proofs::Reaching::header_type))]
 pub fn short_header(piece: &[u8]) -> Header
     ensures { result ≡ short_header piece.now }
 {
@@ -120,6 +121,7 @@ pub fn held_of(phase: Phase) -> Partial
 }
 
 // Whether a value may have so many bytes to come.
+#[tactic(auto, unfolding(crate::specs::Plans::is_makeable_phase, wire::specs::Varint::largest))]
 pub fn is_makeable_value(op: Opening, ctype: u64, length: u64, left: u64) -> bool
     ensures { result ≡ is_makeable_phase op (InValue ctype length left) }
 {

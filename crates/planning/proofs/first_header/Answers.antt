@@ -1,5 +1,5 @@
 -- By the two numbers of the partial type.
-use Rattle.walks.proofs.Words.{◌∙◌, rules}
+use Rattle.walks.proofs.Words.{◌∙◌}
 use Rattle.planning.proofs.Reaching.{first_none, first_some, first_raw}
 use Rattle.planning.proofs.first_header.Goals as goal
 

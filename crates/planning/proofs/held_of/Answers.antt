@@ -1,6 +1,5 @@
 -- By cases of the phase.
 use Rattle.planning.proofs.Terms.{held_of}
-use Rattle.walks.proofs.Words.{rules}
 use Rattle.planning.proofs.held_of.Goals as goal
 
 pub returns-in-InType : goal.returns-in-InType

@@ -1,5 +1,5 @@
 -- By cases of the phase.
-use Rattle.walks.proofs.Words.{le-leb, lt-leb, rules}
+use Rattle.walks.proofs.Words.{le-leb, lt-leb}
 use Rattle.planning.proofs.Terms.{largest, is_makeable_phase}
 use Rattle.planning.proofs.is_makeable_phase.Goals as goal
 

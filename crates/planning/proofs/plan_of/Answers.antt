@@ -1,5 +1,5 @@
 -- What `reach` promises, by its two cases.
-use Rattle.walks.proofs.Words.{◌∙◌, rules}
+use Rattle.walks.proofs.Words.{◌∙◌}
 use Rattle.planning.proofs.Reaching.{stopped, valued, value-within}
 use Rattle.planning.proofs.plan_of.Goals as goal
 

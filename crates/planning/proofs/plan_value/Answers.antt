@@ -1,6 +1,5 @@
 -- By the two plans of a value, `value-ends` and `value_goes`.
 use Rattle.planning.proofs.Planning.{value-ends, value_goes}
-use Rattle.walks.proofs.Words.{rules}
 use Rattle.planning.proofs.plan_value.Goals as goal
 
 pub returns-then-left-room : goal.returns-then-left-room

@@ -1,5 +1,5 @@
 -- By cases of the phase.
-use Rattle.walks.proofs.Words.{arith, refl, rules}
+use Rattle.walks.proofs.Words.{arith, refl}
 use Rattle.planning.proofs.Terms.{plan_of}
 use Rattle.planning.proofs.Reaching.{values}
 use Rattle.planning.proofs.reach.Goals as goal

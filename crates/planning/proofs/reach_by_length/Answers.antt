@@ -1,6 +1,6 @@
 -- By what the length field takes of the piece; `ends-within` keeps the value inside it.
 -- what is taken of the rest of the piece, and where a length ends in it
-use Rattle.walks.proofs.Words.{arith, ◌+◌, ◌≤◌, ◌≡◌, sym, ap, ◌∙◌, length, drop, length-drop, rules}
+use Rattle.walks.proofs.Words.{arith, ◌+◌, ◌≤◌, ◌≡◌, sym, ap, ◌∙◌, length, drop, length-drop}
 use Rattle.planning.proofs.Terms.{partial, take_varint, plan_head}
 use Rattle.planning.proofs.{Planning.ends-within, Planning.rest_of, Planning.length_impossible, Planning.length_more, Planning.length-ends, Reaching.stops, Reaching.values}
 use Rattle.planning.proofs.reach_by_length.Goals as goal

@@ -1,5 +1,5 @@
 -- By what the type field takes of the piece.
-use Rattle.walks.proofs.Words.{sym, ◌∙◌, rules}
+use Rattle.walks.proofs.Words.{sym, ◌∙◌}
 use Rattle.planning.proofs.{Planning.ends-within, Planning.type_impossible, Planning.type_more, Planning.type_ends, Reaching.stops}
 use Rattle.planning.proofs.reach_by_type.Goals as goal
 

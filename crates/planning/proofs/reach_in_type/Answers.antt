@@ -1,5 +1,5 @@
 -- `first_reached`: a short header plans what the general path plans.
-use Rattle.walks.proofs.Words.{sym, ◌∙◌, rules}
+use Rattle.walks.proofs.Words.{sym, ◌∙◌}
 use Rattle.planning.proofs.Reaching.{first_reached}
 use Rattle.planning.proofs.reach_in_type.Goals as goal
 
