@@ -11,6 +11,7 @@ ghost use Rattle.address_rules.specs.Places.{Preceded, Stands, Rising};
 use addresses::{RangePlace, good_entries, range_at};
 
 // A value of an address capsule is well formed: of type 1, 2 or 3, at most 1,024 bytes long, and as RFC 9484 has it.
+#[tactic(auto, using(crate::proofs::Judging::request_none, crate::proofs::Judging::request_some), unfolding(addresses::specs::Addresses::well_formed, addresses::specs::Addresses::good_value, addresses::specs::Addresses::longest_address_value))]
 pub fn well_formed(ctype: u64, value: &[u8]) -> bool
     ensures { result ≡ well_formed ctype value.now }
 {
@@ -69,6 +70,7 @@ fn start_of(value: &[u8], from: usize, previous: usize, at: usize) -> usize
 }
 
 // The range at `at` keeps the rules with those before it; those of its version start at `start`.
+#[tactic(auto, using(crate::proofs::Judging::fit_zero, crate::proofs::Judging::fit_other))]
 fn is_fit(value: &[u8], start: usize, previous: usize, at: usize, width: usize) -> bool
     requires { (previous ≤ at) × (start ≤ at) × (at + (width + width + 2) ≤ length value.now) × (width ≡ width_of (get_or value.now at 0)) × (width ≤ 16) }
     ensures { (st : Seen) → Preceded value.now st.previous previous at → Stands value.now width start (same_of st.previous st.same (range_in value.now at width)) at → Rising value.now width start (length (same_of st.previous st.same (range_in value.now at width))) → result ≡ fits st (range_in value.now at width) }

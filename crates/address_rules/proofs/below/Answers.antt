@@ -1,6 +1,6 @@
 -- Invariant: the bytes left compare as the whole; the laws `below_less`, `below_more` and `below_same` of Runs do a byte.
-use Rattle.walks.proofs.Words.{arith, ◌≡◌, sym, ◌∙◌, ◌-◌, ◌≤◌, le_antisymm, take, drop, ltb}
-use Rattle.address_rules.proofs.Terms.{num, bytes_each, left}
+use Rattle.walks.proofs.Words.{arith, sym, ◌∙◌, le_antisymm}
+use Rattle.address_rules.proofs.Terms.{bytes_each}
 use Rattle.address_rules.proofs.Runs.{below_less, below_more, below_same, below_end, below_start}
 use Rattle.address_rules.proofs.below.Goals as goal
 

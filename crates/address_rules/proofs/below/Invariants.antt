@@ -1,7 +1,6 @@
 -- Invariant: the bytes left compare as the whole; the laws `below_less`, `below_more` and `below_same` of Runs do a byte.
-use Rattle.walks.proofs.Words.{arith, ◌≡◌, sym, ◌∙◌, ◌-◌, ◌≤◌, le_antisymm, take, drop, ltb}
-use Rattle.address_rules.proofs.Terms.{num, bytes_each, left}
-use Rattle.address_rules.proofs.Runs.{below_less, below_more, below_same, below_end, below_start}
+use Rattle.walks.proofs.Words.{◌≡◌, ◌-◌, ◌≤◌, take, drop, ltb}
+use Rattle.address_rules.proofs.Terms.{num, left}
 use Rattle.address_rules.proofs.below.Given as goal
 
 abbrev pub invariant-loop-i : goal.invariant-loop-i

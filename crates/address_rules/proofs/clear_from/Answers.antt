@@ -1,5 +1,5 @@
 -- By the protocol, then by what `below` answers: the law `clear_zero` of Judging.
-use Rattle.walks.proofs.Words.{◌∙◌, lt-ltb, rules}
+use Rattle.walks.proofs.Words.{◌∙◌, lt-ltb}
 use Rattle.address_rules.proofs.Terms.{range_in, clear_from}
 use Rattle.address_rules.proofs.Judging as J
 use Rattle.address_rules.proofs.clear_from.Goals as goal

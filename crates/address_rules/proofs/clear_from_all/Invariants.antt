@@ -1,5 +1,5 @@
 -- Invariant: the ranges below `low` are low and those from `high` on are not (`Searched`); `search_up` and `search_down` of Search halve it.
-use Rattle.walks.proofs.Words.{arith, ◌≡◌, sym, ◌∙◌, ◌+◌, ◌-◌, ◌*◌, ◌/◌, ◌≤◌, ◌<◌, le_antisymm}
+use Rattle.walks.proofs.Words.{◌+◌, ◌-◌, ◌/◌, ◌≤◌}
 use Rattle.address_rules.proofs.Terms.{Rising}
 use Rattle.address_rules.proofs.Search as S
 use Rattle.address_rules.proofs.clear_from_all.Given as goal

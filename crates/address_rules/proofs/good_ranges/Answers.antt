@@ -1,6 +1,6 @@
 -- Invariant: what was seen (Pass), where it stands, and that the pass over the ranges left decides; the law `turn` of Judging does a range.
-use Rattle.walks.proofs.Words.{arith, rules, not-true, not-false, ◌≡◌, sym, ◌∙◌, refl, Bool, true, false, ◌&&◌, ◌+◌, ◌-◌, ◌≤◌, length, drop}
-use Rattle.address_rules.proofs.Terms.{entries, range_at, are_good, good_ranges, range_in, RangeInside, Seen, nothing, pass, fits, after, same_of, Preceded, Stands, Rising}
+use Rattle.walks.proofs.Words.{arith, ◌≡◌, sym, ◌∙◌, refl, Bool, true, false, ◌&&◌, ◌+◌, length, drop}
+use Rattle.address_rules.proofs.Terms.{entries, range_at, are_good, good_ranges, range_in, RangeInside, nothing, pass, fits, after, same_of, Stands, Rising}
 use Rattle.addresses.specs.declared.RangePlace.TheVariants as range-place
 use Rattle.address_rules.proofs.Judging as J
 use Rattle.address_rules.proofs.good_ranges.Goals as goal
@@ -65,13 +65,13 @@ loop-width-smaller c = omega (arith, inside (goal.at.loop-width-smaller c).In-Ra
 pub loop-width-preserved : goal.loop-width-preserved
 unfolding after
 loop-width-preserved c = let v = c.args.value.now in let i = c.loop-width.invariant.2 in let n = inside (goal.at.loop-width-preserved c).In-Range in (
-      n.0,
-      omega arith,
-      (
-        after i.0 (range_in v c.loop-width.at c.in-Range.width),
-        J.precedes v c.loop-width.at c.loop-width.previous c.in-Range.width c.loop-width.from c.start_of-start.result n.1 c.start_of-start.ensures,
-        J.continued v c.loop-width.at c.loop-width.previous c.in-Range.width c.loop-width.from c.start_of-start.result n.1 c.start_of-start.ensures i.0.previous i.0.same (stands (goal.at.loop-width-preserved c).After-start_of-start),
-        J.ranked v c.loop-width.at c.loop-width.previous c.in-Range.width c.loop-width.from c.start_of-start.result n.1 c.start_of-start.ensures i.0 i.1 i.3 (stands (goal.at.loop-width-preserved c).After-start_of-start) (sym (fit (goal.at.loop-width-preserved c).After-is_fit) ∙ c.if-not-is_fit.false),
-        turned (goal.at.loop-width-preserved c).After-is_fit true c.if-not-is_fit.false,
-      ),
-    )
+  n.0,
+  omega arith,
+  (
+    after i.0 (range_in v c.loop-width.at c.in-Range.width),
+    J.precedes v c.loop-width.at c.loop-width.previous c.in-Range.width c.loop-width.from c.start_of-start.result n.1 c.start_of-start.ensures,
+    J.continued v c.loop-width.at c.loop-width.previous c.in-Range.width c.loop-width.from c.start_of-start.result n.1 c.start_of-start.ensures i.0.previous i.0.same (stands (goal.at.loop-width-preserved c).After-start_of-start),
+    J.ranked v c.loop-width.at c.loop-width.previous c.in-Range.width c.loop-width.from c.start_of-start.result n.1 c.start_of-start.ensures i.0 i.1 i.3 (stands (goal.at.loop-width-preserved c).After-start_of-start) (sym (fit (goal.at.loop-width-preserved c).After-is_fit) ∙ c.if-not-is_fit.false),
+    turned (goal.at.loop-width-preserved c).After-is_fit true c.if-not-is_fit.false,
+  ),
+)

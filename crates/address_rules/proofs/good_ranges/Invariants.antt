@@ -1,7 +1,6 @@
 -- Invariant: what was seen (Pass), where it stands, and that the pass over the ranges left decides; the law `turn` of Judging does a range.
-use Rattle.walks.proofs.Words.{arith, rules, not-true, not-false, ◌≡◌, sym, ◌∙◌, refl, Bool, true, false, ◌&&◌, ◌+◌, ◌-◌, ◌≤◌, length, drop}
-use Rattle.address_rules.proofs.Terms.{entries, range_at, are_good, good_ranges, range_in, RangeInside, Seen, nothing, pass, fits, after, same_of, Preceded, Stands, Rising}
-use Rattle.addresses.specs.declared.RangePlace.TheVariants as range-place
+use Rattle.walks.proofs.Words.{◌≡◌, ◌-◌, ◌≤◌, length, drop}
+use Rattle.address_rules.proofs.Terms.{entries, range_at, are_good, good_ranges, Seen, pass, Preceded}
 use Rattle.address_rules.proofs.Judging as J
 use Rattle.address_rules.proofs.good_ranges.Given as goal
 

@@ -1,5 +1,5 @@
 -- By the tests, in their order: the laws `before-..` of Judging.
-use Rattle.walks.proofs.Words.{le_antisymm, ◌∙◌, rules}
+use Rattle.walks.proofs.Words.{le_antisymm, ◌∙◌}
 use Rattle.address_rules.proofs.Judging as J
 use Rattle.address_rules.proofs.is_before.Goals as goal
 

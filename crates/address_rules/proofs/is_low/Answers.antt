@@ -1,5 +1,5 @@
 -- By the protocol: the laws `low_other` and `low_zero` of Judging.
-use Rattle.walks.proofs.Words.{◌∙◌, rules}
+use Rattle.walks.proofs.Words.{◌∙◌}
 use Rattle.address_rules.proofs.Judging as J
 use Rattle.address_rules.proofs.is_low.Goals as goal
 

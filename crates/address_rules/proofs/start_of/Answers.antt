@@ -1,5 +1,5 @@
 -- Both outcomes of the test compute.
-use Rattle.walks.proofs.Words.{eq-eqb, ne_eqb, rules}
+use Rattle.walks.proofs.Words.{eq-eqb, ne_eqb}
 use Rattle.address_rules.proofs.start_of.Goals as goal
 
 pub returns-then-value-previous : goal.returns-then-value-previous
