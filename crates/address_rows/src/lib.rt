@@ -11,6 +11,7 @@ use opening::Kind;
 use wire::varint::{Varint, Written, write_varint};
 
 // Whether a varint holds the request ID of every record.
+#[tactic(auto, using(crate::proofs::Rows::ids_large), unfolding(wire::specs::Varint::largest))]
 pub fn ids_fit(row: &[u8]) -> bool
     ensures { result ≡ all_of id_fits (entries_in row.now) }
 {
@@ -34,6 +35,7 @@ pub fn record_size(routes: bool) -> usize
 }
 
 // All records, or so many that the value is too long: 1,058 bytes are room enough, and in fewer nothing is put.
+#[tactic(auto, using(crate::proofs::Putting::going_stops))]
 pub fn put_records(routes: bool, row: &[u8], out: &mut [u8]) -> usize
     ensures { gathering result out.new ≡ put_records routes row.now out.old }
 {

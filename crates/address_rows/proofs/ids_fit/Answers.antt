@@ -1,14 +1,11 @@
 -- Invariant: all IDs fit exactly if those left do; the laws `ids_large` and `ids_on` of Rows do an ID.
-use Rattle.walks.proofs.Words.{arith, ◌≡◌, sym, ◌∙◌, ◌-◌}
-use Rattle.address_rows.proofs.Terms.{largest, all_of, entries_in, id_fits}
-use Rattle.address_rows.proofs.Rows.{ids, ids_all, ids-end, ids_large, ids_on}
+use Rattle.walks.proofs.Words.{arith, sym, ◌∙◌}
+use Rattle.address_rows.proofs.Terms.{largest}
+use Rattle.address_rows.proofs.Rows.{ids_all, ids-end, ids_on}
 use Rattle.address_rows.proofs.ids_fit.Goals as goal
 
 pub loop-i-init : goal.loop-i-init
 loop-i-init c = sym (ids_all c.args.row.now)
-
-pub returns-then-number8-gt-MAX : goal.returns-then-number8-gt-MAX
-returns-then-number8-gt-MAX c = sym (c.loop-i.invariant ∙ ids_large c.args.row.now c.loop-i.i (omega arith) (unfold largest in omega (arith, c.number8.ensures)))
 
 pub loop-i-preserved : goal.loop-i-preserved
 loop-i-preserved c = c.loop-i.invariant ∙ ids_on c.args.row.now c.loop-i.i (omega arith) (unfold largest in omega (arith, c.number8.ensures))

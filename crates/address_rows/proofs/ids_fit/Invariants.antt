@@ -1,7 +1,7 @@
 -- Invariant: all IDs fit exactly if those left do; the laws `ids_large` and `ids_on` of Rows do an ID.
-use Rattle.walks.proofs.Words.{arith, ◌≡◌, sym, ◌∙◌, ◌-◌}
-use Rattle.address_rows.proofs.Terms.{largest, all_of, entries_in, id_fits}
-use Rattle.address_rows.proofs.Rows.{ids, ids_all, ids-end, ids_large, ids_on}
+use Rattle.walks.proofs.Words.{◌≡◌, ◌-◌}
+use Rattle.address_rows.proofs.Terms.{all_of, entries_in, id_fits}
+use Rattle.address_rows.proofs.Rows.{ids}
 use Rattle.address_rows.proofs.ids_fit.Given as goal
 
 abbrev pub invariant-loop-i : goal.invariant-loop-i

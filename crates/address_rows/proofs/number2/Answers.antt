@@ -1,5 +1,5 @@
 -- The law `little_halves` of Rows; a byte is below 256.
-use Rattle.walks.proofs.Words.{arith, ◌∙◌, ◌+◌, rules}
+use Rattle.walks.proofs.Words.{arith, ◌∙◌, ◌+◌}
 use Rattle.address_rows.proofs.Rows.{little_one, little_halves}
 use Rattle.address_rows.proofs.number2.Goals as goal
 

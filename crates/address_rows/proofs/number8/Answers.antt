@@ -1,5 +1,5 @@
 -- The law `little_halves` of Rows.
-use Rattle.walks.proofs.Words.{arith, rules}
+use Rattle.walks.proofs.Words.{arith}
 use Rattle.address_rows.proofs.Rows.{little_halves}
 use Rattle.address_rows.proofs.number8.Goals as goal
 

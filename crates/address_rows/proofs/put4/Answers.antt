@@ -1,5 +1,5 @@
 -- Four stores: the law `put_four` of Putting.
-use Rattle.walks.proofs.Words.{arith, length-set, rules}
+use Rattle.walks.proofs.Words.{arith, length-set}
 use Rattle.address_rows.proofs.Putting.{put_four}
 use Rattle.address_rows.proofs.put4.Goals as goal
 

@@ -1,5 +1,5 @@
 -- Two calls: the law `put_halves` of Putting.
-use Rattle.walks.proofs.Words.{arith, rules}
+use Rattle.walks.proofs.Words.{arith}
 use Rattle.address_rows.proofs.Putting.{put_halves}
 use Rattle.address_rows.proofs.put8.Goals as goal
 

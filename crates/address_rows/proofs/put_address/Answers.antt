@@ -1,5 +1,5 @@
 -- By the version, of which the width computes.
-use Rattle.walks.proofs.Words.{arith, refl, ne_eqb, rules}
+use Rattle.walks.proofs.Words.{arith, refl, ne_eqb}
 use Rattle.address_rows.proofs.Terms.{width_of}
 use Rattle.address_rows.proofs.put_address.Goals as goal
 

@@ -1,5 +1,5 @@
 -- Room: an ID has at most 8 bytes, an address 16; the law `put_entry` of Putting joins what was put.
-use Rattle.walks.proofs.Words.{arith, get_or, ◌+◌, rules}
+use Rattle.walks.proofs.Words.{arith, get_or, ◌+◌}
 use Rattle.address_rows.proofs.Putting.{address_most, put_entry}
 use Rattle.address_rows.proofs.put_entry.Goals as goal
 

@@ -1,5 +1,5 @@
 -- By what `write_varint` answers: the laws `put_wrote` and `put_refused` of Putting.
-use Rattle.walks.proofs.Words.{arith, ◌+◌, ◌≤◌, rules}
+use Rattle.walks.proofs.Words.{arith, ◌+◌, ◌≤◌}
 use Rattle.address_rows.proofs.Terms.{Put, id_bytes}
 use Rattle.address_rows.proofs.Putting.{put_wrote, put_refused}
 use Rattle.address_rows.proofs.put_number.Goals as goal

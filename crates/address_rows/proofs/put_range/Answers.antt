@@ -1,5 +1,5 @@
 -- Room: an address has at most 16 bytes; the law `put_range` of Putting joins what was put.
-use Rattle.walks.proofs.Words.{arith, get_or, ◌+◌, rules}
+use Rattle.walks.proofs.Words.{arith, get_or, ◌+◌}
 use Rattle.address_rows.proofs.Terms.{bytes_each}
 use Rattle.address_rows.proofs.Putting.{address_most, put_range}
 use Rattle.address_rows.proofs.put_range.Goals as goal

@@ -1,5 +1,4 @@
 -- By `routes`: a range, or an entry.
-use Rattle.walks.proofs.Words.{rules}
 use Rattle.address_rows.proofs.Terms.{size_in, record_bytes}
 use Rattle.address_rows.proofs.put_record.Goals as goal
 

@@ -1,6 +1,6 @@
 -- Invariant: what is put so far, with the records left, is the whole (`Going`); the law `turn` of Putting does a record.
-use Rattle.walks.proofs.Words.{arith, rules, ◌≡◌, refl, ◌∙◌, ◌-◌, ◌≤◌, length}
-use Rattle.address_rows.proofs.{Rows.inside, Rows.few, Putting.Going, Putting.no_room, Putting.going_starts, Putting.going_stops, Putting.turn, Putting.turns_end}
+use Rattle.walks.proofs.Words.{arith, refl, ◌∙◌}
+use Rattle.address_rows.proofs.{Rows.inside, Rows.few, Putting.no_room, Putting.going_starts, Putting.turn, Putting.turns_end}
 use Rattle.address_rows.proofs.put_records.Goals as goal
 
 pub returns-then-out-lt1058 : goal.returns-then-out-lt1058
@@ -11,12 +11,6 @@ nonzero_div-count c = omega (arith, c.record_size-size.ensures.1)
 
 pub loop-i-init : goal.loop-i-init
 loop-i-init c = let a = c.args in (refl, omega arith, going_starts a.routes a.row.now a.out.now)
-
-pub shape_of-out-then-at-gt-LONGEST_ADDRESS_VALUE : goal.shape_of-out-then-at-gt-LONGEST_ADDRESS_VALUE
-shape_of-out-then-at-gt-LONGEST_ADDRESS_VALUE c = c.loop-i.invariant.0
-
-pub returns-then-at-gt-LONGEST_ADDRESS_VALUE : goal.returns-then-at-gt-LONGEST_ADDRESS_VALUE
-returns-then-at-gt-LONGEST_ADDRESS_VALUE c = let a = c.args in going_stops a.routes a.row.now a.out.now (omega arith) (omega arith) c.loop-i.invariant.2
 
 pub overflow_mul-size : goal.overflow_mul-size
 overflow_mul-size c = let a = c.args in omega (arith, inside a.routes a.row.now c.record_size-size.result c.record_size-size.ensures.0 c.loop-i.i (omega arith))

@@ -1,6 +1,6 @@
 -- Invariant: what is put so far, with the records left, is the whole (`Going`); the law `turn` of Putting does a record.
-use Rattle.walks.proofs.Words.{arith, rules, ◌≡◌, refl, ◌∙◌, ◌-◌, ◌≤◌, length}
-use Rattle.address_rows.proofs.{Rows.inside, Rows.few, Putting.Going, Putting.no_room, Putting.going_starts, Putting.going_stops, Putting.turn, Putting.turns_end}
+use Rattle.walks.proofs.Words.{◌≡◌, ◌-◌, ◌≤◌, length}
+use Rattle.address_rows.proofs.{Putting.Going}
 use Rattle.address_rows.proofs.put_records.Given as goal
 
 abbrev pub invariant-loop-i : goal.invariant-loop-i
