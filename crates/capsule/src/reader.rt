@@ -224,6 +224,7 @@ fn is_last(ended: Ended) -> bool
 }
 
 // How a clean close finds the stream.
+#[tactic(auto, unfolding(crate::specs::Reader::end_at))]
 fn end_at(phase: Phase) -> CloseAnswer
     ensures { result ≡ end_at phase }
 {

@@ -1,5 +1,5 @@
 -- The held bytes, then the run: `wrote_some`.
-use Rattle.walks.proofs.Words.{arith, rules}
+use Rattle.walks.proofs.Words.{arith}
 use Rattle.capsule.proofs.Moving.{wrote_some, wrote_none}
 use Rattle.capsule.proofs.moves.forward_bytes.Goals as goal
 

@@ -1,6 +1,6 @@
 -- A loop: the bytes put so far are the front of the number (`put_next`).
-use Rattle.walks.proofs.Words.{arith, rules, ◌-◌, ◌≤◌, ◌≡◌, refl, length, length-set}
-use Rattle.capsule.proofs.Moving.{Putting, put_none, put_next, put_all}
+use Rattle.walks.proofs.Words.{arith, rules, refl, length-set}
+use Rattle.capsule.proofs.Moving.{put_none, put_next, put_all}
 use Rattle.capsule.proofs.moves.put_held.Goals as goal
 
 pub loop-i-init : goal.loop-i-init

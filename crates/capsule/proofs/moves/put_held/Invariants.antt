@@ -1,6 +1,6 @@
 -- A loop: the bytes put so far are the front of the number (`put_next`).
-use Rattle.walks.proofs.Words.{arith, rules, ◌-◌, ◌≤◌, ◌≡◌, refl, length, length-set}
-use Rattle.capsule.proofs.Moving.{Putting, put_none, put_next, put_all}
+use Rattle.walks.proofs.Words.{◌-◌, ◌≤◌, ◌≡◌, length}
+use Rattle.capsule.proofs.Moving.{Putting}
 use Rattle.capsule.proofs.moves.put_held.Given as goal
 
 abbrev pub invariant-loop-i : goal.invariant-loop-i

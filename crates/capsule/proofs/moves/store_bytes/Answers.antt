@@ -1,5 +1,4 @@
 -- `copy_span`, where it is called.
-use Rattle.walks.proofs.Words.{rules}
 use Rattle.capsule.proofs.Moving.{stored_some, stored_none}
 use Rattle.capsule.proofs.moves.store_bytes.Goals as goal
 

@@ -1,6 +1,5 @@
 -- By cases of what ended.
 use Rattle.capsule.proofs.Terms.{finishes_in}
-use Rattle.walks.proofs.Words.{rules}
 use Rattle.capsule.proofs.reader.is_last.Goals as goal
 
 pub returns-in-Nothing : goal.returns-in-Nothing

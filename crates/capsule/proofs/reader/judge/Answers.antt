@@ -1,5 +1,5 @@
 -- By cases of what ended.
-use Rattle.walks.proofs.Words.{ap, rules}
+use Rattle.walks.proofs.Words.{ap}
 use Rattle.capsule.proofs.Terms.{Capsule, judged_in}
 use Rattle.capsule.proofs.reader.judge.Goals as goal
 

@@ -1,5 +1,5 @@
 -- `judged_good` and `judged-bad`, over the whole buffer or its front.
-use Rattle.walks.proofs.Words.{length-take-le, refl, sym, rules}
+use Rattle.walks.proofs.Words.{length-take-le, refl, sym}
 use Rattle.capsule.proofs.Judging.{judged_good, judged-bad, all_there}
 use Rattle.capsule.proofs.reader.judge_address.Goals as goal
 

@@ -1,6 +1,5 @@
 -- By cases of the report; only an address capsule is judged.
 use Rattle.capsule.proofs.Terms.{judged, length_of}
-use Rattle.walks.proofs.Words.{rules}
 use Rattle.capsule.proofs.reader.judge_report.Goals as goal
 
 pub returns-in-Delivered : goal.returns-in-Delivered

@@ -1,5 +1,5 @@
 -- The tests in the order of the definition.
-use Rattle.walks.proofs.Words.{sym, ◌∙◌, not-true, not-false, rules}
+use Rattle.walks.proofs.Words.{sym, ◌∙◌}
 use Rattle.capsule.proofs.Terms.{close_of}
 use Rattle.capsule.proofs.reader.Reader.close.Goals as goal
 

@@ -1,5 +1,5 @@
 -- By the verdict: `feed_refused`, `feed_taken`.
-use Rattle.walks.proofs.Words.{sym, ◌∙◌, rules}
+use Rattle.walks.proofs.Words.{sym, ◌∙◌}
 use Rattle.capsule.proofs.Verdicts.{feed_refused, feed_taken}
 use Rattle.capsule.proofs.reader.Reader.feed.Goals as goal
 

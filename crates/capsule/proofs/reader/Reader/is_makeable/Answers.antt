@@ -1,5 +1,5 @@
 -- The limit, then the phase.
-use Rattle.walks.proofs.Words.{le-leb, lt-leb, rules}
+use Rattle.walks.proofs.Words.{le-leb, lt-leb}
 use Rattle.capsule.proofs.Terms.{is_opening, is_makeable}
 use Rattle.capsule.proofs.reader.Reader.is_makeable.Goals as goal
 

@@ -1,6 +1,6 @@
 -- The plan fits the piece and the buffers (`plan-fits`), and moving its bytes is the definition (`takes`).
 -- what is known at the entry, of the held bytes and of the plan
-use Rattle.walks.proofs.Words.{arith, ◌≤◌, length, rules}
+use Rattle.walks.proofs.Words.{arith, ◌≤◌, length}
 use Rattle.capsule.proofs.Terms.{Fits, plan-fits, held_few}
 use Rattle.capsule.proofs.{Moving.takes, Verdicts.Accepts, Verdicts.accepts}
 use Rattle.capsule.proofs.reader.Reader.take.Goals as goal

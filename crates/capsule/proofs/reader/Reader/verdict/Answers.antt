@@ -1,5 +1,5 @@
 -- One law of Verdicts for each refusal.
-use Rattle.walks.proofs.Words.{sym, ◌∙◌, not-true, not-false, rules}
+use Rattle.walks.proofs.Words.{sym, ◌∙◌}
 use Rattle.capsule.proofs.Verdicts.{unmakeable, after-close, by_lengths}
 use Rattle.capsule.proofs.reader.Reader.verdict.Goals as goal
 
