@@ -1,5 +1,5 @@
 -- The invariant: the number so far is `num_from` of the bytes passed; `number_turn` of Numbers does one turn.
-use Rattle.walks.proofs.Words.{add-zero, add_assoc, le_antisymm, arith, ℕ, ◌+◌, ◌-◌, ◌<◌, ◌≤◌, ◌^◌, ◌≡◌, sym, ap, ◌∙◌, subst, get_or, take}
+use Rattle.walks.proofs.Words.{add-zero, add_assoc, le_antisymm, arith, ℕ, ◌+◌, ◌<◌, ◌^◌, ◌≡◌, sym, ap, ◌∙◌, subst, get_or, take}
 use Rattle.wire.proofs.Terms.{num_from}
 use Rattle.wire.proofs.Numbers.{number_nil, number_turn, number_bound, number-room}
 use Rattle.wire.proofs.partial.number_on.Goals as goal

@@ -1,5 +1,5 @@
 -- `read_top` of Encoding, for eight and for four bytes.
-use Rattle.walks.proofs.Words.{arith, refl, ⊎_elim}
+use Rattle.walks.proofs.Words.{arith, refl}
 use Rattle.wire.proofs.Encoding.{read_top}
 use Rattle.wire.proofs.varint.long_form.Goals as goal
 use Rattle.wire.proofs.varint.long_form.Goals.{else-first-ge-FIRST_OF_8, then-first-ge-FIRST_OF_8}

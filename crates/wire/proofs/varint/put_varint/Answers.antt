@@ -6,7 +6,7 @@ use Rattle.wire.proofs.varint.put_varint.Goals as goal
 
 pub bounds-out-at : goal.bounds-out-at
 unfolding largest
-bounds-out-at c = omega (arith, size-at c.args.n 0 (width_0 c.args.n c.if-n-le-MAX_OF_1.true))
+bounds-out-at c = omega (arith, size-at c.args.n 0 (width_0 c.args.n (omega arith)))
 
 pub put2-requires : goal.put2-requires
 unfolding largest
@@ -22,7 +22,7 @@ put8-requires c = omega (arith, size-at c.args.n 3 (width_3 c.args.n (omega arit
 
 pub returns-then-n-le-MAX_OF_1 : goal.returns-then-n-le-MAX_OF_1
 unfolding largest
-returns-then-n-le-MAX_OF_1 c = ap (sets _ _) (encode_one _ c.if-n-le-MAX_OF_1.true)
+returns-then-n-le-MAX_OF_1 c = ap (sets _ _) (encode_one _ (omega arith))
 
 pub returns-then-n-le-MAX_OF_2 : goal.returns-then-n-le-MAX_OF_2
 unfolding largest

@@ -22,4 +22,4 @@ put_varint-requires c = (omega (arith, c.least_size-size.ensures), c.if-n-gt-MAX
 
 pub returns : goal.returns
 unfolding largest
-returns c =     let size = c.least_size-size.ensures in     rw (size, c.put_varint.ensures) (write_fits _ _ _ c.if-n-gt-MAX.false (omega arith))
+returns c = let size = c.least_size-size.ensures in rw (size, c.put_varint.ensures) (write_fits _ _ _ c.if-n-gt-MAX.false (omega arith))

@@ -1,5 +1,5 @@
 -- By whether bytes are held: `take_impossible` and `take-empty` of Parts, and what `start` and `go_on` ensure.
-use Rattle.walks.proofs.Words.{arith, sym, ◌∙◌, not-true, not-false}
+use Rattle.walks.proofs.Words.{arith, sym, ◌∙◌}
 use Rattle.wire.proofs.Terms.{is_partial}
 use Rattle.wire.proofs.Parts.{take_impossible, take-empty, first_impossible}
 use Rattle.wire.proofs.partial.Partial.take.Goals as goal
