@@ -1,5 +1,5 @@
 -- Laws `whole-..` of FastPaths, one for each way out.
-use Rattle.walks.proofs.Words.{refl, sym, ◌∙◌, not-true, not-false, rules}
+use Rattle.walks.proofs.Words.{refl, sym, ◌∙◌}
 use Rattle.fast_paths.proofs.Terms.{value-within, short_reached}
 use Rattle.fast_paths.proofs.FastPaths.{fresh_verdict, whole-refused, whole_large, whole_long, whole-address}
 use Rattle.fast_paths.proofs.feed_whole.Goals as goal

@@ -1,5 +1,5 @@
 -- By cases of the kind.
-use Rattle.walks.proofs.Words.{sym, ◌∙◌, rules}
+use Rattle.walks.proofs.Words.{sym, ◌∙◌}
 use Rattle.fast_paths.proofs.Terms.{is_plain}
 use Rattle.fast_paths.proofs.is_plain.Goals as goal
 

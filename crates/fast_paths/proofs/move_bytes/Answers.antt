@@ -1,5 +1,5 @@
 -- A copy that fits (`stored_some`, `forwarded`); a capsule that is gathered is not forwarded (`gathered_only`).
-use Rattle.walks.proofs.Words.{sym, ◌∙◌, rules}
+use Rattle.walks.proofs.Words.{sym, ◌∙◌}
 use Rattle.fast_paths.proofs.Terms.{stored_some, stored_none, wrote_none}
 use Rattle.fast_paths.proofs.FastPaths.{gathered_only, forwarded}
 use Rattle.fast_paths.proofs.move_bytes.Goals as goal

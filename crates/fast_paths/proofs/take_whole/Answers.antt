@@ -1,5 +1,5 @@
 -- `whole_cut` and `whole-taken`; what is moved fits (`fits`).
-use Rattle.walks.proofs.Words.{arith, rules}
+use Rattle.walks.proofs.Words.{arith}
 use Rattle.fast_paths.proofs.FastPaths.{fits, whole_cut, whole-taken}
 use Rattle.fast_paths.proofs.take_whole.Goals as goal
 
