@@ -1,6 +1,5 @@
 -- Invariant: the bytes copied so far, and zeros; the law `copy_turn` of Handing does a byte.
-use Rattle.walks.proofs.Words.{set, take, drop, replicate, get_or, arith, ◌≡◌, ◌∙◌, refl, ap, List, ◌++◌, le_antisymm, ℕ, ◌+◌, ◌-◌, ◌≤◌}
-use Rattle.address_cursor.proofs.Handing as H
+use Rattle.walks.proofs.Words.{take, drop, replicate, ◌≡◌, ◌++◌, ◌-◌, ◌≤◌}
 use Rattle.address_cursor.proofs.address_bytes.Given as goal
 
 abbrev pub invariant-loop-i : goal.invariant-loop-i

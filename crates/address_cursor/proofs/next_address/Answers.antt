@@ -1,5 +1,5 @@
 -- By what `entry_at` finds: the law `address-found` of Handing.
-use Rattle.walks.proofs.Words.{arith, ◌≡◌, ◌∙◌, rules}
+use Rattle.walks.proofs.Words.{arith, ◌≡◌, ◌∙◌}
 use Rattle.addresses.specs.declared.Place.TheVariants as place
 use Rattle.address_cursor.proofs.Terms.{Inside, next_address}
 use Rattle.address_cursor.proofs.Handing as H

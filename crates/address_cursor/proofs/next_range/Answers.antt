@@ -1,5 +1,5 @@
 -- By what `range_at` finds: the law `range-found` of Handing.
-use Rattle.walks.proofs.Words.{arith, ◌≡◌, ◌∙◌, rules}
+use Rattle.walks.proofs.Words.{arith, ◌≡◌, ◌∙◌}
 use Rattle.address_cursor.proofs.Terms.{bytes_each, RangeInside, next_range}
 use Rattle.addresses.specs.declared.RangePlace.TheVariants as range-place
 use Rattle.address_cursor.proofs.Handing as H
