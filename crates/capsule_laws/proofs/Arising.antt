@@ -1,5 +1,5 @@
 -- From an opening refusal 1 cannot arise, whatever is lent; and gathered value bytes stand at their places. Assumes nothing.
-use Rattle.capsule_laws.proofs.Terms.{Refusal, unmakeable_state, finished, Reader, Accepted, Refused, Reply, Call, close, refused, run, new_book, Book, book_feed, book_call, of_book, opening, is_makeable, fed_by, take_of, feed_by, feed_reply, close_reply, reader_call, zero_one, NeverUnmakeable, AllBytes, NoneIs, OpenedAsNamed, RefusedCloseUnchanged, ReaderNeverUnmakeable, StandsAfter, HandedOnStands}
+use Rattle.capsule_laws.proofs.Terms.{Refusal, unmakeable_state, finished, Reader, Accepted, Reply, Call, close, refused, run, new_book, Book, book_feed, book_call, of_book, opening, is_makeable, fed_by, take_of, feed_by, feed_reply, close_reply, reader_call, zero_one, NeverUnmakeable, AllBytes, NoneIs, OpenedAsNamed, RefusedCloseUnchanged, ReaderNeverUnmakeable, StandsAfter, HandedOnStands}
 use Rattle.walks.proofs.Words.{◌≡◌, ap, refl, ◌∙◌, true, List, [], ◌∷◌, arith}
 use Rattle.capsule.specs.declared.reader.CloseAnswer.TheVariants as closed_as
 use Rattle.capsule_laws.proofs.{Lists.Open, Lists.open_fresh, Lists.fresh_book, Lists.verdict_same, Lists.taken-stands, Lists.left_by_lem, Lists.book_by, Lists.handed_well, Makeable.call_makeable, Makeable.opened_makeable, Graphs.Calls, Graphs.refuses_piece, Graphs.takes_piece, Graphs.refuses_close, Graphs.closes, Graphs.calls, Graphs.Books, Graphs.refuses_feed, Graphs.takes_feed, Graphs.refuses_end, Graphs.closes_book, Graphs.books}

@@ -1,6 +1,6 @@
 -- How many capsules a reader reports, whatever buffers are lent. Assumes nothing.
 use Rattle.walks.proofs.Words.{◌≡◌, ap, ℕ, arith, Bool, false, List, [], length}
-use Rattle.capsule_laws.proofs.Terms.{finished, Role, Opening, Ready, Reader, Parts, parts, Call, Reply, run, parts_for, opening, open_of, reader_call, AllBytes, consumed_in, reports}
+use Rattle.capsule_laws.proofs.Terms.{Role, Opening, Ready, Reader, Parts, parts, Call, Reply, run, parts_for, opening, open_of, reader_call, AllBytes, consumed_in, reports}
 use Rattle.capsule_laws.proofs.{Appending.for_nil, Plain.read_plain, States.made_calls}
 
 module _ (role : Role) (limit : ℕ) (draft addresses : Bool) (r : Reader) (e : open_of role limit draft addresses ≡ Ready r) (cs : List Call) (h : AllBytes cs) where

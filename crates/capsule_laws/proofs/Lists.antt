@@ -1,6 +1,6 @@
 -- Demand 3: every list of calls. Assumes nothing.
 use Rattle.walks.proofs.Words.{◌≡◌, refl, sym, ap, ◌∙◌, subst, ℕ, suc, ◌+◌, ◌-◌, ◌≤◌, arith, Bool, true, false, Option, none, some, List, [], ◌∷◌, length, take, drop, length-append, drop-append_seam, sets, length-take-le, le-leb, lt-ltb, ne_eqb}
-use Rattle.capsule_laws.proofs.Terms.{finished, Partial, Bytes, bytes_of, largest, partial_of, held_bytes, bytes_drop, length-bytes_of, read_bounds, no_whole_nil, both, partial_occurs, Opening, Role, Plan, Phase, Reader, Verdict, Accepted, Refused, Stage, in_type, in_length, in_value, part, Parts, longest_address_value, opted, extent_of, gathers, keeps, Lent, Call, feed, close, Reply, run, parts_for, only_if, forwarded, append, Book, new_book, book_verdict, gained, book_feed, end_of, book_close, book_call, phase_at, phase_of, reader_of, of_book, opening, fresh, is_opening, open_of, is_makeable, verdict_of, wrote, fed_by, take_of, feed_by, feed_of, end_at, close_of, feed_reply, close_reply, reader_call, is_makeable_phase, plan_of, held_of, StandsAt, StandsBy, Stands, AllBytes, Agrees, Follows, left_by, HandedOn, LentWell, Demand3, Demand3Standing, zero_one, no_true, keeps-opted, plan-fits, held_few, Accepts, accepts}
+use Rattle.capsule_laws.proofs.Terms.{Partial, Bytes, bytes_of, largest, partial_of, held_bytes, bytes_drop, length-bytes_of, read_bounds, no_whole_nil, both, partial_occurs, Opening, Role, Plan, Phase, Reader, Verdict, Accepted, Refused, Stage, in_type, in_length, in_value, part, Parts, longest_address_value, opted, extent_of, gathers, keeps, Lent, Call, feed, close, Reply, run, parts_for, only_if, forwarded, append, Book, new_book, book_verdict, gained, book_feed, end_of, book_close, book_call, phase_at, phase_of, reader_of, of_book, opening, fresh, is_opening, open_of, is_makeable, verdict_of, wrote, fed_by, take_of, feed_by, feed_of, end_at, close_of, feed_reply, close_reply, reader_call, is_makeable_phase, plan_of, held_of, StandsAt, StandsBy, Stands, AllBytes, Agrees, Follows, left_by, HandedOn, LentWell, Demand3, Demand3Standing, zero_one, no_true, keeps-opted, plan-fits, held_few, Accepts, accepts}
 use Rattle.capsule.specs.declared.reader.Opened.TheVariants as opened
 use Rattle.capsule_laws.proofs.{Grammar.sees_type, Grammar.sees_length, Grammar.sees_value, Grammar.head_fits, Appending.Shows, Appending.for_nil, Appending.tail_shows, Appending.for_bytes, Gathering.take-sets, Steps.Same, Steps.same, Steps.between}
 use Rattle.capsule_laws.proofs.Graphs as graphs

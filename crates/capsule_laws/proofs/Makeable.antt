@@ -1,6 +1,6 @@
 -- Which states opening, feeding and closing make, and what follows for every state. Assumes nothing.
 use Rattle.walks.proofs.Words.{◌≡◌, refl, sym, ap, ◌∙◌, subst, ℕ, ◌+◌, ◌≤◌, ◌<◌, arith, Bool, true, false, List, [], ◌∷◌, ◌++◌, length}
-use Rattle.capsule_laws.proofs.Terms.{finished, Bytes, both, Role, Endpoint, Intermediary, Opening, Phase, Reader, Verdict, Accepted, Refused, Stage, part, Parts, longest_address_value, opted, keeps, Lent, lent, Call, feed, close, Reply, run, finishes_in, lent_verdict, parts_for, Taken, append, ended_by, Book, new_book, book_verdict, book_feed, book_close, book_call, phase_of, reader_of, of_book, opening, fresh, is_opening, open_of, is_makeable, verdict_of, fed_by, take_of, feed_by, feed_of, reader_call, is_makeable_phase, plan_of, StandsAt, StandsBy, AddressesWell, CallBytes, AllBytes, Makes, MakeableExactly, StaysMakeable, RefusedUnchanged, Progress, StateOfBook, StateOfPlainBook, zero_one, Accepts, accepts, accepted_makeable, endpoint-lent, output-lent}
+use Rattle.capsule_laws.proofs.Terms.{Bytes, both, Role, Endpoint, Intermediary, Opening, Phase, Reader, Verdict, Accepted, Refused, Stage, part, Parts, longest_address_value, opted, keeps, Lent, lent, Call, feed, close, Reply, run, finishes_in, lent_verdict, parts_for, Taken, append, ended_by, Book, new_book, book_verdict, book_feed, book_close, book_call, phase_of, reader_of, of_book, opening, fresh, is_opening, open_of, is_makeable, verdict_of, fed_by, take_of, feed_by, feed_of, reader_call, is_makeable_phase, plan_of, StandsAt, StandsBy, AddressesWell, CallBytes, AllBytes, Makes, MakeableExactly, StaysMakeable, RefusedUnchanged, Progress, StateOfBook, StateOfPlainBook, zero_one, Accepts, accepts, accepted_makeable, endpoint-lent, output-lent}
 use Rattle.capsule.specs.declared.reader.FeedAnswer.TheVariants as fed_as
 use Rattle.capsule.specs.declared.reader.Opened.TheVariants as opened
 use Rattle.capsule_laws.proofs.{Appending.Shows, Appending.for_nil, Appending.append_goes, Graphs.Calls, Graphs.refuses_piece, Graphs.takes_piece, Graphs.refuses_close, Graphs.closes, Graphs.calls, Origins.zeros, Origins.zeros-length, Origins.Written, Origins.written, Origins.planned_by, Origins.planned, Marks.call_opening, Lists.Open, Lists.made-stream, Lists.made_book, Lists.verdict_same, Lists.unmarked, Lists.left_by_lem, Lists.book_by, Lists.open_fresh, Lists.fresh_book, Lists.fresh_open, Lists.none_kept, Lists.one-close}

@@ -1,6 +1,6 @@
 -- For every state that can be made a stream that makes it, and its plan as the book's. Assumes nothing.
 use Rattle.walks.proofs.Words.{◌≡◌, sym, ap, ◌∙◌, subst, ℕ, zero, suc, ◌+◌, ◌-◌, ◌≤◌, ◌<◌, arith, Bool, true, ◌&&◌, List, ◌++◌, length, drop, replicate, length-append, length-drop, length-replicate, take_at, drop_at, leb, ltb, ltb-true, leb-true}
-use Rattle.capsule_laws.proofs.Terms.{finished, Whole, Partial, Bytes, largest, read_varint, encode_as, partial_of, held_bytes, is_partial, bytes-append, bytes_of-bytes, length-bytes_of, every_form_read, parted, held_bytes_lem, held_read, partial_held, Opening, Phase, InType, InLength, InValue, Reader, Stage, in_type, in_length, in_value, part, Parts, longest_address_value, opted, extent_of, gathers, keeps, parts_for, append, phase_at, phase_of, reader_of, opening, is_opening, is_makeable, is_makeable_phase, plan_of, StandsAt}
+use Rattle.capsule_laws.proofs.Terms.{Whole, Partial, Bytes, largest, read_varint, encode_as, partial_of, held_bytes, is_partial, bytes-append, bytes_of-bytes, length-bytes_of, every_form_read, parted, held_bytes_lem, held_read, partial_held, Opening, Phase, InType, InLength, InValue, Reader, Stage, in_type, in_length, in_value, part, Parts, longest_address_value, opted, extent_of, gathers, keeps, parts_for, append, phase_at, phase_of, reader_of, is_opening, is_makeable, is_makeable_phase, plan_of, StandsAt}
 use Rattle.capsule_laws.proofs.{Grammar.sees_type, Grammar.sees_length, Grammar.sees_value, Appending.Shows, Appending.for_part, Appending.tail_shows, Steps.Same, Steps.same}
 
 -- ---- a stream that makes the phase

@@ -1,7 +1,7 @@
 -- The state after a list of calls, by the consumed bytes and the reader's own finished mark, and how many capsules it reports, whatever buffers
 -- are lent. Assumes nothing.
 use Rattle.walks.proofs.Words.{◌≡◌, refl, sym, ap, ◌∙◌, subst, ℕ, Bool, true, false, List, [], ◌∷◌, ◌++◌, append_assoc, append-nil, length, take, take-length, ◌+◌, arith, length-append}
-use Rattle.capsule_laws.proofs.Terms.{finished, Bytes, Role, Opening, Ready, Reader, Lent, Call, feed, run, Reply, refused, fed, closed, finishes_in, parts_for, append, new_book, phase_of, reader_of, of_book, opening, open_of, fed_by, take_of, feed_reply, reader_call, judged_in, plan_of, CallBytes, AllBytes, consumed_by, consumed_in, StateDecided, Short, AllShort, reports_in, reports, Report, Plan, Front, part, whole, front_by, Capsule, Parts, extent_of, report_of, no_true}
+use Rattle.capsule_laws.proofs.Terms.{Bytes, Role, Opening, Ready, Reader, Lent, Call, feed, run, Reply, refused, fed, closed, finishes_in, parts_for, append, new_book, phase_of, reader_of, of_book, opening, open_of, fed_by, take_of, feed_reply, reader_call, judged_in, plan_of, CallBytes, AllBytes, consumed_by, consumed_in, StateDecided, Short, AllShort, reports_in, reports, Report, Plan, Front, part, whole, front_by, Capsule, Parts, extent_of, report_of, no_true}
 use Rattle.capsule_laws.proofs.{Appending.one, Appending.Shows, Appending.shows, Appending.tail_shows, Appending.for_bytes, Appending.parts_goes, Appending.parts-ends, Appending.append-ends, Lists.open_fresh, Lists.fresh_book, Origins.planned, Plans.plan_at, Plans.plan-is, Steps.count-is, Steps.nothing_is, Marks.short_report, Graphs.Calls, Graphs.refuses_piece, Graphs.takes_piece, Graphs.refuses_close, Graphs.closes, Graphs.calls, Consuming.consumed_exactly}
 use Rattle.planning.specs.declared.Ended.TheVariants as ended
 

@@ -1,5 +1,5 @@
 -- By the three answers; each is one line that `write_text` or `write_one` writes.
-use Rattle.walks.proofs.Words.{arith, rules}
+use Rattle.walks.proofs.Words.{arith}
 use Rattle.text_lines.proofs.Terms.{end_line, text}
 use Rattle.text_lines.proofs.write_end.Goals as goal
 

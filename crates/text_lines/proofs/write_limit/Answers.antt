@@ -1,5 +1,5 @@
 -- One line with one number.
-use Rattle.walks.proofs.Words.{arith, rules}
+use Rattle.walks.proofs.Words.{arith}
 use Rattle.text_lines.proofs.Terms.{limit_line, text}
 use Rattle.text_lines.proofs.write_limit.Goals as goal
 

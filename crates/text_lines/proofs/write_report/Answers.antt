@@ -1,5 +1,5 @@
 -- By the six reports; each is one line that `write_one` or `write_two` writes.
-use Rattle.walks.proofs.Words.{arith, rules}
+use Rattle.walks.proofs.Words.{arith}
 use Rattle.text_lines.proofs.Terms.{report_line, text}
 use Rattle.text_lines.proofs.write_report.Goals as goal
 

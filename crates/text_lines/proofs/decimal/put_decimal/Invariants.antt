@@ -1,6 +1,5 @@
 -- The loop's invariant is `Standing` of Placing; `stands-next` puts four digits. The rest of the number falls.
-use Rattle.walks.proofs.Words.{◌∙◌, refl, arith, rules}
-use Rattle.text_lines.proofs.{Decimals.four-more, Placing.Standing, Placing.stands-next}
+use Rattle.text_lines.proofs.{Placing.Standing}
 use Rattle.text_lines.proofs.decimal.put_decimal.Given as goal
 
 abbrev pub invariant-loop-rest : goal.invariant-loop-rest

@@ -1,6 +1,5 @@
 -- The loop's invariant: digits counted and digits of the rest are all digits. `four-more` of Decimals does one turn.
-use Rattle.walks.proofs.Words.{arith, ◌+◌, ◌≡◌, length, rules}
-use Rattle.text_lines.proofs.Terms.{decimal}
+use Rattle.walks.proofs.Words.{arith}
 use Rattle.text_lines.proofs.Decimals.{length_most, four-more}
 use Rattle.text_lines.proofs.decimal.size_of.Goals as goal
 

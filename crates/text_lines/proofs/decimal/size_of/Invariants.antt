@@ -1,7 +1,6 @@
 -- The loop's invariant: digits counted and digits of the rest are all digits. `four-more` of Decimals does one turn.
-use Rattle.walks.proofs.Words.{arith, ◌+◌, ◌≡◌, length, rules}
+use Rattle.walks.proofs.Words.{◌+◌, ◌≡◌, length}
 use Rattle.text_lines.proofs.Terms.{decimal}
-use Rattle.text_lines.proofs.Decimals.{length_most, four-more}
 use Rattle.text_lines.proofs.decimal.size_of.Given as goal
 
 abbrev pub invariant-loop-rest : goal.invariant-loop-rest

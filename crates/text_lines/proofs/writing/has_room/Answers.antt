@@ -7,4 +7,4 @@ pub returns-then-place-room : goal.returns-then-place-room
 returns-then-place-room c = (λ e. no_true e, λ e. omega arith)
 
 pub returns : goal.returns
-returns c =     (λ e. omega (arith, leb-true c.args.size (c.args.room - c.args.place) e), λ e. omega (arith, leb-false c.args.size (c.args.room - c.args.place) e))
+returns c = (λ e. omega (arith, leb-true c.args.size (c.args.room - c.args.place) e), λ e. omega (arith, leb-false c.args.size (c.args.room - c.args.place) e))

@@ -1,6 +1,6 @@
 -- The loop's invariant is `Putting` of Placing: what is in place and what is left make the whole.
-use Rattle.walks.proofs.Words.{arith, rules, ◌-◌, ◌≤◌, ◌≡◌, refl, length, length-set}
-use Rattle.text_lines.proofs.Placing.{Putting, put_none, put_next, put_all}
+use Rattle.walks.proofs.Words.{◌-◌, ◌≤◌, ◌≡◌, length}
+use Rattle.text_lines.proofs.Placing.{Putting}
 use Rattle.text_lines.proofs.writing.put_text.Given as goal
 
 abbrev pub invariant-loop-i : goal.invariant-loop-i

@@ -1,5 +1,5 @@
 -- Where there is room, `placed_one` of Placing joins word and number; where there is none, nothing changes.
-use Rattle.walks.proofs.Words.{arith, rules}
+use Rattle.walks.proofs.Words.{arith}
 use Rattle.text_lines.proofs.Placing.{no_room, written, length-one, placed_one}
 use Rattle.text_lines.proofs.writing.write_one.Goals as goal
 
@@ -10,7 +10,7 @@ pub overflow_add-place : goal.overflow_add-place
 overflow_add-place c = omega (arith, c.has_room.ensures.0 c.if-has_room.true)
 
 pub put_number-requires : goal.put_number-requires
-put_number-requires c =     (c.size_of-size.ensures.0, omega (arith, c.has_room.ensures.0 c.if-has_room.true, c.put_text.auto.out))
+put_number-requires c = (c.size_of-size.ensures.0, omega (arith, c.has_room.ensures.0 c.if-has_room.true, c.put_text.auto.out))
 
 pub returns-then-has_room : goal.returns-then-has_room
 returns-then-has_room c =

@@ -1,6 +1,6 @@
 -- By the room: `written` and `no_room` of Placing.
 use Rattle.text_lines.proofs.Placing.{no_room, written}
-use Rattle.walks.proofs.Words.{refl, rules}
+use Rattle.walks.proofs.Words.{refl}
 use Rattle.text_lines.proofs.writing.write_text.Goals as goal
 
 pub put_text-requires : goal.put_text-requires

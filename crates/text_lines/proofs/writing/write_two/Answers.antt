@@ -1,5 +1,5 @@
 -- Where there is room, `placed_two` of Placing joins word and numbers; where there is none, nothing changes.
-use Rattle.walks.proofs.Words.{arith, rules}
+use Rattle.walks.proofs.Words.{arith}
 use Rattle.text_lines.proofs.Placing.{no_room, written, length_two, placed_two}
 use Rattle.text_lines.proofs.writing.write_two.Goals as goal
 
@@ -10,13 +10,13 @@ pub overflow_add-at : goal.overflow_add-at
 overflow_add-at c = omega (arith, c.has_room.ensures.0 c.if-has_room.true)
 
 pub put_number-requires : goal.put_number-requires
-put_number-requires c =     (c.size_of-first.ensures.0, omega (arith, c.has_room.ensures.0 c.if-has_room.true, c.put_text.auto.out))
+put_number-requires c = (c.size_of-first.ensures.0, omega (arith, c.has_room.ensures.0 c.if-has_room.true, c.put_text.auto.out))
 
 pub overflow_add-at-then-has_room : goal.overflow_add-at-then-has_room
-overflow_add-at-then-has_room c =     omega (arith, c.has_room.ensures.0 c.if-has_room.true, c.put_text.auto.out)
+overflow_add-at-then-has_room c = omega (arith, c.has_room.ensures.0 c.if-has_room.true, c.put_text.auto.out)
 
 pub put_number-requires-then-has_room : goal.put_number-requires-then-has_room
-put_number-requires-then-has_room c =     (c.size_of-second.ensures.0, omega (arith, c.has_room.ensures.0 c.if-has_room.true, c.put_text.auto.out, c.put_number.auto.out))
+put_number-requires-then-has_room c = (c.size_of-second.ensures.0, omega (arith, c.has_room.ensures.0 c.if-has_room.true, c.put_text.auto.out, c.put_number.auto.out))
 
 pub returns-then-has_room : goal.returns-then-has_room
 returns-then-has_room c =
