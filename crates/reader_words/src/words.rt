@@ -25,6 +25,7 @@ pub enum Loaded {
     Is(Reader),
 }
 
+#[tactic(auto, using(crate::proofs::StoredForm::reads_not), unfolding(crate::specs::Words::with_phase, crate::specs::Words::reader_mark))]
 pub fn load(words: &[u64; 8]) -> Loaded
     ensures { result ≡ reader_in words.now }
 {
@@ -166,6 +167,7 @@ fn load_phase(kind: u64, a: u64, b: u64, c: u64) -> LoadedPhase
 }
 
 // The role by its word.
+#[tactic(auto, unfolding(crate::specs::Words::role_in, crate::specs::Words::reader_mark))]
 fn role_in(word: u64) -> Role
     ensures { result ≡ role_in word }
 {

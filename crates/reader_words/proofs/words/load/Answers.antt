@@ -1,24 +1,8 @@
 -- What passes the four tests is read by its phase: `reads_so`, `reads_not`.
 use Rattle.walks.proofs.Words.{sym, ◌∙◌, arith}
 use Rattle.reader_words.proofs.Terms.{reader_mark, with_phase}
-use Rattle.reader_words.proofs.StoredForm.{reads_so, reads_not}
+use Rattle.reader_words.proofs.StoredForm.{reads_so}
 use Rattle.reader_words.proofs.words.load.Goals as goal
-
-pub returns-then-words-lt-MARK : goal.returns-then-words-lt-MARK
-unfolding with_phase reader_mark
-returns-then-words-lt-MARK c = reads_not _ (λ l h s m. omega arith)
-
-pub returns-then-words : goal.returns-then-words
-unfolding with_phase reader_mark
-returns-then-words c = reads_not _ (λ l h s m. omega arith)
-
-pub returns-then-settings-gt3 : goal.returns-then-settings-gt3
-unfolding with_phase reader_mark
-returns-then-settings-gt3 c = reads_not _ (λ l h s m. omega arith)
-
-pub returns-then-words-gt1 : goal.returns-then-words-gt1
-unfolding with_phase reader_mark
-returns-then-words-gt1 c = reads_not _ (λ l h s m. omega arith)
 
 pub returns-in-Nothing : goal.returns-in-Nothing
 unfolding with_phase reader_mark
