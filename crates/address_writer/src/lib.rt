@@ -44,6 +44,7 @@ fn write_addresses(ctype: u8, row: &[u8], out: &mut [u8], place: usize) -> Writt
     write_records(ctype, false, row, out, place)
 }
 
+#[tactic(auto, using(crate::proofs::Writing::surplus))]
 fn write_records(ctype: u8, routes: bool, row: &[u8], out: &mut [u8], place: usize) -> Written
     requires { routes ≡ false → all_of id_fits (entries_in row.now) ≡ true }
     ensures { writing result out.new ≡ write_value (is_whole (size_in routes) row.now) ctype (value_in routes row.now) out.old place }

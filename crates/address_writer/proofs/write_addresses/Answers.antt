@@ -1,5 +1,5 @@
 -- By `ids_fit`: the laws `large` and `addresses` of Writing.
-use Rattle.walks.proofs.Words.{◌∙◌, sym, not-true, not-false, rules}
+use Rattle.walks.proofs.Words.{◌∙◌, sym}
 use Rattle.address_writer.proofs.Writing.{large, addresses}
 use Rattle.address_writer.proofs.write_addresses.Goals as goal
 

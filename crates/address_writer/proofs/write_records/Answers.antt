@@ -1,11 +1,8 @@
 -- By the tests: the laws `surplus`, `too_long` and `gathered` of Writing, of what `put_records` put together.
-use Rattle.walks.proofs.Words.{arith, sym, length-take-le, rules}
+use Rattle.walks.proofs.Words.{arith, sym, length-take-le}
 use Rattle.address_writer.proofs.Terms.{value_in, gathers}
-use Rattle.address_writer.proofs.Writing.{surplus, too_long, gathered}
+use Rattle.address_writer.proofs.Writing.{too_long, gathered}
 use Rattle.address_writer.proofs.write_records.Goals as goal
-
-pub returns-then-row-record_size-ne0 : goal.returns-then-row-record_size-ne0
-returns-then-row-record_size-ne0 c = let a = c.args in surplus a.routes a.row.now a.ctype (value_in a.routes a.row.now) a.out.now a.place c.record_size.result c.record_size.ensures.0 (λ e. omega arith)
 
 pub returns-then-size-gt-LONGEST_ADDRESS_VALUE : goal.returns-then-size-gt-LONGEST_ADDRESS_VALUE
 returns-then-size-gt-LONGEST_ADDRESS_VALUE c = let a = c.args in

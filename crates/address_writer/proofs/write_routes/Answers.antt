@@ -1,5 +1,5 @@
 -- The law `routes` of Writing; what `write_records` asks is of entries alone.
-use Rattle.walks.proofs.Words.{arith, ◌≡◌, ◌∙◌, ℕ, rules}
+use Rattle.walks.proofs.Words.{arith, ◌≡◌, ◌∙◌, ℕ}
 use Rattle.address_writer.proofs.Writing.{routes}
 use Rattle.address_writer.proofs.write_routes.Goals as goal
 

@@ -1,5 +1,5 @@
 -- By the tests: the laws `malformed`, `short` and `fits` of Writing.
-use Rattle.walks.proofs.Words.{arith, ◌≡◌, sym, ◌∙◌, true, length, length-set, not-true, not-false, rules}
+use Rattle.walks.proofs.Words.{arith, ◌≡◌, sym, ◌∙◌, true, length, length-set}
 use Rattle.address_writer.proofs.Terms.{well_formed, size_most}
 use Rattle.address_writer.proofs.Writing.{malformed, short, fits, formed_short}
 use Rattle.address_writer.proofs.write_value.Goals as goal
