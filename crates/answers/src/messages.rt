@@ -4,8 +4,8 @@ ghost use Rattle.answers.specs.Messages.{message_of, field_answer, action_answer
 
 use crate::numbers::{refusal_number, status_of};
 use capsule_protocol::field::FieldValue;
-use http_messages::messages::Message;
 use http_errors::translation::{Action, Translation};
+use http_messages::messages::Message;
 use reader_words::numbers::flag_of;
 
 // in_use: 1 or 0

@@ -1,7 +1,7 @@
 -- Calls on a reader that is kept in words (specs/Claims.antt). Assumes nothing.
 use Prim.{tt}
 use Rattle.walks.proofs.Words.{ℕ, ◌≡◌, refl, sym, ap, ◌∙◌, Bool, true, List, [], ◌∷◌, arith, leb}
-use Rattle.capi.proofs.Terms.{Bytes, parted, starts_le, is_partial, largest, Phase, InType, InLength, InValue, Reader, Opened, Role, Opening, Ended, Nothing, Capsule, FeedAnswer, CloseAnswer, new_book, Lent, close, run, opening, open_of, is_opening, is_makeable, feed_of, close_of, reader_call, is_makeable_phase, made_book, open_fresh, fresh_book, fresh_open, refused-close_unchanged, stays_makeable, calls_makeable, refused_unchanged, Loaded, role_of, flag_of, HaveIsByte, reader_mark, words_of, reader_in, fed_report, fed_took, fed_answer, closed_answer, close_refusal, opened_at, open_words, words_fed, feed_loaded, feed_words, words_closed, closed_by, close_loaded, close_words, Refused, look_words, RefusedReaderLeaves, ZeroWordsRefused, OpenKept, FeedKept, CloseKept, ReaderKept, stored-read}
+use Rattle.capi.proofs.Terms.{Bytes, parted, starts_le, is_partial, largest, Phase, InType, InLength, InValue, Reader, Opened, Role, Opening, Ended, Nothing, Capsule, FeedAnswer, CloseAnswer, new_book, Lent, close, run, opening, open_of, is_opening, is_makeable, feed_of, close_of, reader_call, is_makeable_phase, made_book, open_fresh, fresh_book, fresh_open, refused-close_unchanged, stays_makeable, calls_makeable, refused_unchanged, Loaded, role_of, flag_of, HaveIsByte, reader_mark, words_of, reader_in, fed_report, fed_took, fed_answer, closed_answer, close_refusal, opened_at, open_words, words_fed, feed_loaded, feed_words, words_closed, closed_by, close_loaded, close_words, look_words, RefusedReaderLeaves, ZeroWordsRefused, OpenKept, FeedKept, CloseKept, ReaderKept, stored-read}
 use Rattle.capsule.specs.declared.reader.Opened.TheVariants as opened_as
 use Rattle.capsule.specs.declared.reader.FeedAnswer.TheVariants as fed_as
 use Rattle.capsule.specs.declared.reader.CloseAnswer.TheVariants as closed_as

@@ -13,9 +13,9 @@ use answers::messages::{
 };
 use answers::numbers::{error_number, status_of};
 use capsule_protocol::field::read_field;
+use http_errors::translation::translate;
 use http_messages::messages::{request_malformed, response_malformed};
 use http_messages::settings::received;
-use http_errors::translation::translate;
 use reader_words::numbers::{bit_of, flag_of};
 
 #[unsafe(no_mangle)]

@@ -7,7 +7,6 @@ use Rattle.wire.specs.declared.units.QuarterOf.TheVariants as quarter
 use Rattle.wire.specs.declared.units.StreamOf.TheVariants as stream
 use Rattle.wire.specs.declared.partial.VarintTaken.TheVariants.{Impossible, More, Ends}
 use Rattle.wire.specs.Partial.{partial}
-use Rattle.judging.specs.Judging.{quarter}
 use Rattle.cases.specs.Pin.{Pin, reads, writes, quarters, streams, takes}
 
 -- three bytes, none of them 0

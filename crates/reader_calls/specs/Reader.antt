@@ -4,7 +4,6 @@ use Rattle.refusals.specs.Numbers.{unmakeable_state}
 use Rattle.capsule.specs.declared.reader.Reader.{Reader}
 use Rattle.capsule.specs.declared.reader.Opened.{Opened}
 use Rattle.capsule.specs.declared.reader.Opened.TheVariants as opened_as
-use Rattle.planning.specs.declared.Ended.TheVariants.{Nothing}
 use Rattle.capsule.specs.declared.reader.FeedAnswer.{FeedAnswer}
 use Rattle.capsule.specs.declared.reader.FeedAnswer.TheVariants as fed_as
 use Rattle.capsule.specs.declared.reader.CloseAnswer.{CloseAnswer}

@@ -1,5 +1,4 @@
 -- What the two calls promise, one after the other.
-use Rattle.walks.proofs.Words.{rules}
 use Rattle.varint_before.proofs.mrz_read_varint_before.Goals as goal
 
 pub returns : goal.returns

@@ -1,5 +1,5 @@
 -- By the first byte and the length: laws of `wire`, and of `short_forms` where two bytes are read.
-use Rattle.walks.proofs.Words.{arith, sym, ◌∙◌, rules}
+use Rattle.walks.proofs.Words.{arith, sym, ◌∙◌}
 use Rattle.short_forms.proofs.{Short.first_two}
 use Rattle.wire.proofs.{Forms.short_exactly, Forms.from_128, Reading.front_none, Reading.front_one, Reading.front_less}
 use Rattle.varint_before.proofs.read_before.Goals as goal

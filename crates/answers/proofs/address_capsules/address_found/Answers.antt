@@ -1,5 +1,4 @@
 -- Field by field; the number of what was found is `found_number`'s.
-use Rattle.walks.proofs.Words.{rules}
 use Rattle.answers.proofs.Terms.{address_found}
 use Rattle.answers.proofs.address_capsules.address_found.Goals as goal
 

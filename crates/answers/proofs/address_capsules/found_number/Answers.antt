@@ -1,6 +1,5 @@
 -- One number for each case of `Found`.
 use Rattle.answers.proofs.Terms.{found_number}
-use Rattle.walks.proofs.Words.{rules}
 use Rattle.answers.proofs.address_capsules.found_number.Goals as goal
 
 pub returns-in-End : goal.returns-in-End

@@ -1,5 +1,4 @@
 -- By the two cases of `QuarterOf`.
-use Rattle.walks.proofs.Words.{rules}
 use Rattle.answers.proofs.Terms.{quarter_answer}
 use Rattle.answers.proofs.identifiers.quarter_answer.Goals as goal
 

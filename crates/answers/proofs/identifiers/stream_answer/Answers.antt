@@ -1,5 +1,4 @@
 -- By the two cases of `StreamOf`.
-use Rattle.walks.proofs.Words.{rules}
 use Rattle.answers.proofs.Terms.{stream_answer}
 use Rattle.answers.proofs.identifiers.stream_answer.Goals as goal
 

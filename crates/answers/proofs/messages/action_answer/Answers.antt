@@ -1,6 +1,5 @@
 -- One answer for each action.
 use Rattle.answers.proofs.Terms.{action_answer}
-use Rattle.walks.proofs.Words.{rules}
 use Rattle.answers.proofs.messages.action_answer.Goals as goal
 
 pub returns-in-None : goal.returns-in-None

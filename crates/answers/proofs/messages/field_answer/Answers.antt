@@ -1,5 +1,4 @@
 -- A refusal's number, or what the value says.
-use Rattle.walks.proofs.Words.{rules}
 use Rattle.answers.proofs.Terms.{field_answer}
 use Rattle.answers.proofs.messages.field_answer.Goals as goal
 

@@ -1,5 +1,5 @@
 -- The test is the definition's; the status is read by `status_of`.
-use Rattle.walks.proofs.Words.{sym, ◌∙◌, rules}
+use Rattle.walks.proofs.Words.{sym, ◌∙◌}
 use Rattle.answers.proofs.Terms.{message_of}
 use Rattle.answers.proofs.messages.message_of.Goals as goal
 

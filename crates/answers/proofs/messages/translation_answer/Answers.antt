@@ -1,5 +1,4 @@
 -- A refusal's number, or the numbers of the action.
-use Rattle.walks.proofs.Words.{rules}
 use Rattle.answers.proofs.Terms.{translation_answer}
 use Rattle.answers.proofs.messages.translation_answer.Goals as goal
 

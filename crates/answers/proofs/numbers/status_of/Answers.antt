@@ -1,5 +1,5 @@
 -- The test is the definition's.
-use Rattle.walks.proofs.Words.{le-leb, lt-leb, rules}
+use Rattle.walks.proofs.Words.{le-leb, lt-leb}
 use Rattle.answers.proofs.Terms.{status_of}
 use Rattle.answers.proofs.numbers.status_of.Goals as goal
 

@@ -1,5 +1,4 @@
 -- By the two cases of `Listed`.
-use Rattle.walks.proofs.Words.{rules}
 use Rattle.answers.proofs.Terms.{listing_answer}
 use Rattle.answers.proofs.one_shot.listing_answer.Goals as goal
 

@@ -1,5 +1,4 @@
 -- By the two cases of `Varint`.
-use Rattle.walks.proofs.Words.{rules}
 use Rattle.answers.proofs.Terms.{varint_answer}
 use Rattle.answers.proofs.varint.varint_answer.Goals as goal
 

@@ -1,6 +1,5 @@
 -- By the two cases of `Written`.
 use Rattle.answers.proofs.Terms.{written_answer}
-use Rattle.walks.proofs.Words.{rules}
 use Rattle.answers.proofs.varint.written_answer.Goals as goal
 
 pub returns-in-Refused : goal.returns-in-Refused

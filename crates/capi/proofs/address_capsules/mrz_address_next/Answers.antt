@@ -1,5 +1,4 @@
 -- What the two calls promise, one after the other.
-use Rattle.walks.proofs.Words.{rules}
 use Rattle.capi.proofs.address_capsules.mrz_address_next.Goals as goal
 
 pub returns : goal.returns

@@ -1,5 +1,5 @@
 -- What the two calls promise, one after the other.
-use Rattle.walks.proofs.Words.{ap, ◌∙◌, rules}
+use Rattle.walks.proofs.Words.{ap, ◌∙◌}
 use Rattle.capi.proofs.Terms.{bit_of}
 use Rattle.capi.proofs.address_capsules.mrz_address_value_good.Goals as goal
 

@@ -1,5 +1,5 @@
 -- The writer's promise, with its answer in numbers.
-use Rattle.walks.proofs.Words.{ap, rules}
+use Rattle.walks.proofs.Words.{ap}
 use Rattle.capi.proofs.Terms.{wrote_by}
 use Rattle.capi.proofs.address_capsules.mrz_write_address_assign.Goals as goal
 

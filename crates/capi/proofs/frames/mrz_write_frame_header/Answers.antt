@@ -1,5 +1,5 @@
 -- `mrz_write_frame_header`: what `write_frame_header` did, in numbers. Assumes nothing.
-use Rattle.walks.proofs.Words.{ap, rules}
+use Rattle.walks.proofs.Words.{ap}
 use Rattle.capi.proofs.Terms.{wrote_by}
 use Rattle.capi.proofs.frames.mrz_write_frame_header.Goals as goal
 

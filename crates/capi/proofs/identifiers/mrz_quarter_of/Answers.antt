@@ -1,5 +1,4 @@
 -- What the two calls promise, one after the other.
-use Rattle.walks.proofs.Words.{rules}
 use Rattle.capi.proofs.identifiers.mrz_quarter_of.Goals as goal
 
 pub returns : goal.returns

@@ -1,5 +1,4 @@
 -- What the calls promise, one after the other.
-use Rattle.walks.proofs.Words.{rules}
 use Rattle.capi.proofs.messages.mrz_field_counts.Goals as goal
 
 pub returns : goal.returns

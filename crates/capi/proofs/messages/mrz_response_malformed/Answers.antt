@@ -1,5 +1,4 @@
 -- The numbers read as a status and flags, then what the two calls promise.
-use Rattle.walks.proofs.Words.{rules}
 use Rattle.capi.proofs.messages.mrz_response_malformed.Goals as goal
 
 pub returns : goal.returns

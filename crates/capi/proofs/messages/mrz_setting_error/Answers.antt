@@ -1,5 +1,4 @@
 -- What the calls promise, one after the other.
-use Rattle.walks.proofs.Words.{rules}
 use Rattle.capi.proofs.messages.mrz_setting_error.Goals as goal
 
 pub returns : goal.returns

@@ -1,5 +1,5 @@
 -- By what was loaded and what the close answered; the law `close_by` of ReaderCalls does every case but that of no reader.
-use Rattle.walks.proofs.Words.{refl, sym, ◌∙◌, rules}
+use Rattle.walks.proofs.Words.{refl, sym, ◌∙◌}
 use Rattle.capi.proofs.Terms.{words_closed, close-nothing, close_by}
 use Rattle.capi.proofs.reader.mrz_reader_close.Goals as goal
 

@@ -1,5 +1,5 @@
 -- What was read is looked at.
-use Rattle.walks.proofs.Words.{sym, ap, ◌∙◌, rules}
+use Rattle.walks.proofs.Words.{sym, ap, ◌∙◌}
 use Rattle.capi.proofs.Terms.{looked_answer, look_words}
 use Rattle.capi.proofs.sight.mrz_reader_look.Goals as goal
 

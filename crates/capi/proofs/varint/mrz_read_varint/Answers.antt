@@ -1,5 +1,4 @@
 -- What the two calls promise, one after the other.
-use Rattle.walks.proofs.Words.{rules}
 use Rattle.capi.proofs.varint.mrz_read_varint.Goals as goal
 
 pub returns : goal.returns

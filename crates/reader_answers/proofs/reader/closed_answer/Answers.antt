@@ -1,6 +1,5 @@
 -- By the three cases of `CloseAnswer`.
 use Rattle.reader_answers.proofs.Terms.{end_number, closed_answer, close_refusal}
-use Rattle.walks.proofs.Words.{rules}
 use Rattle.reader_answers.proofs.reader.closed_answer.Goals as goal
 
 pub returns-in-Refused : goal.returns-in-Refused

@@ -1,6 +1,5 @@
 -- One answer for each report.
 use Rattle.reader_answers.proofs.Terms.{length_of, report_error, error_number, report_number, type_of, fed_report}
-use Rattle.walks.proofs.Words.{rules}
 use Rattle.reader_answers.proofs.reader.fed_report.Goals as goal
 
 pub returns-in-Delivered : goal.returns-in-Delivered

@@ -1,6 +1,5 @@
 -- By what ended; a report's numbers are `fed_report`'s.
 use Rattle.reader_answers.proofs.Terms.{fed_took}
-use Rattle.walks.proofs.Words.{rules}
 use Rattle.reader_answers.proofs.reader.fed_took.Goals as goal
 
 pub returns-in-Nothing : goal.returns-in-Nothing

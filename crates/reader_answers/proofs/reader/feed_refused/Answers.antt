@@ -1,5 +1,4 @@
 -- The refusal's number is `refusal_number`'s.
-use Rattle.walks.proofs.Words.{rules}
 use Rattle.reader_answers.proofs.reader.feed_refused.Goals as goal
 
 pub returns : goal.returns

@@ -1,6 +1,5 @@
 -- One answer for each buffer.
 use Rattle.reader_answers.proofs.Terms.{buffer_number}
-use Rattle.walks.proofs.Words.{rules}
 use Rattle.reader_answers.proofs.sight.buffer_number.Goals as goal
 
 pub returns-in-Neither : goal.returns-in-Neither

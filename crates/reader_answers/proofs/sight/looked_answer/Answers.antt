@@ -1,6 +1,5 @@
 -- A refusal's number, or what was seen.
 use Rattle.reader_answers.proofs.Terms.{looked_answer}
-use Rattle.walks.proofs.Words.{rules}
 use Rattle.reader_answers.proofs.sight.looked_answer.Goals as goal
 
 pub returns-in-Refused : goal.returns-in-Refused

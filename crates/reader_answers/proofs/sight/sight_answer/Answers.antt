@@ -1,6 +1,5 @@
 -- One answer for each place.
 use Rattle.reader_answers.proofs.Terms.{sight_answer}
-use Rattle.walks.proofs.Words.{rules}
 use Rattle.reader_answers.proofs.sight.sight_answer.Goals as goal
 
 pub returns-in-Between : goal.returns-in-Between

@@ -1,5 +1,5 @@
 -- By what was loaded and what the feeding answered: `feed_nothing`, `feed_kept`, `feed_stored` of ReaderCalls.
-use Rattle.walks.proofs.Words.{sym, ◌∙◌, rules}
+use Rattle.walks.proofs.Words.{sym, ◌∙◌}
 use Rattle.reader_calls.proofs.ReaderCalls.{feed_nothing, feed_kept, feed_stored}
 use Rattle.reader_calls.proofs.reader.feed_loaded.Goals as goal
 

@@ -1,6 +1,5 @@
 -- By what came of the short way: `was_fed`, or `was_nothing` and then the general way.
 use Rattle.reader_calls.proofs.ShortWords.{was_nothing, was_fed}
-use Rattle.walks.proofs.Words.{rules}
 use Rattle.reader_calls.proofs.reader.feed_words.Goals as goal
 
 pub returns-in-Fed : goal.returns-in-Fed

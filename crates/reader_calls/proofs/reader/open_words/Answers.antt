@@ -1,5 +1,5 @@
 -- What `Reader::open` answers, in numbers.
-use Rattle.walks.proofs.Words.{sym, ◌∙◌, rules}
+use Rattle.walks.proofs.Words.{sym, ◌∙◌}
 use Rattle.reader_calls.proofs.Terms.{opened_at, open_words}
 use Rattle.reader_calls.proofs.reader.open_words.Goals as goal
 

@@ -1,5 +1,5 @@
 -- By what `feed_whole` answered: `between_not`, `between_fed`, `between_cut` of ShortWords.
-use Rattle.walks.proofs.Words.{arith, sym, ap, ◌∙◌, length, rules}
+use Rattle.walks.proofs.Words.{arith, sym, ap, ◌∙◌, length}
 use Rattle.reader_calls.proofs.ShortWords.{between_not, between_fed, between_cut}
 use Rattle.reader_calls.proofs.short.try_between.Goals as goal
 

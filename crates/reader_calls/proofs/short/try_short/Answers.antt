@@ -1,5 +1,5 @@
 -- By what `position_of` answers, which is what each short way requires.
-use Rattle.walks.proofs.Words.{refl, rules}
+use Rattle.walks.proofs.Words.{refl}
 use Rattle.reader_calls.proofs.Terms.{between_reads, within_reads}
 use Rattle.reader_calls.proofs.ShortWords.{tried_nothing}
 use Rattle.reader_calls.proofs.short.try_short.Goals as goal

@@ -1,5 +1,5 @@
 -- By what `feed_inside` answered: `within_not`, `within-fed`, `within_ended` of ShortWords.
-use Rattle.walks.proofs.Words.{arith, sym, ap, ◌∙◌, length, rules}
+use Rattle.walks.proofs.Words.{arith, sym, ap, ◌∙◌, length}
 use Rattle.reader_calls.proofs.ShortWords.{within_not, within-fits, within-fed, within_ended}
 use Rattle.reader_calls.proofs.short.try_within.Goals as goal
 

@@ -1,5 +1,5 @@
 -- `delivered`: a varint that was read lies in the frame. Assumes nothing.
-use Rattle.walks.proofs.Words.{sym, ◌∙◌, rules}
+use Rattle.walks.proofs.Words.{sym, ◌∙◌}
 use Rattle.stream_answers.proofs.Terms.{reads, rule_of, quarter_in, place_in, judged_error, error_number, or_zero, delivered_answer}
 use Rattle.stream_answers.proofs.frames.delivered.Goals as goal
 

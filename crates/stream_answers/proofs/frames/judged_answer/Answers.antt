@@ -1,6 +1,5 @@
 -- `judged_answer`, by the nine cases of `Judged`. Assumes nothing.
 use Rattle.stream_answers.proofs.Terms.{rule_of, quarter_in, place_in, or_zero, judged_answer}
-use Rattle.walks.proofs.Words.{rules}
 use Rattle.stream_answers.proofs.frames.judged_answer.Goals as goal
 
 pub returns-in-Refused : goal.returns-in-Refused

@@ -1,5 +1,4 @@
 -- `ruled`: the error's number is `judged_error`'s. Assumes nothing.
-use Rattle.walks.proofs.Words.{rules}
 use Rattle.stream_answers.proofs.frames.ruled.Goals as goal
 
 pub returns : goal.returns

@@ -1,6 +1,5 @@
 -- `closed_answer`, by the two cases of `Closing`. Assumes nothing.
 use Rattle.stream_answers.proofs.Terms.{closed_answer}
-use Rattle.walks.proofs.Words.{rules}
 use Rattle.stream_answers.proofs.table.closed_answer.Goals as goal
 
 pub returns-in-Refused : goal.returns-in-Refused

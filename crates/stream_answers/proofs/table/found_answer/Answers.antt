@@ -1,6 +1,5 @@
 -- `found_answer`, by the two cases of `Standing`. Assumes nothing.
 use Rattle.stream_answers.proofs.Terms.{found_answer}
-use Rattle.walks.proofs.Words.{rules}
 use Rattle.stream_answers.proofs.table.found_answer.Goals as goal
 
 pub returns-in-Refused : goal.returns-in-Refused

@@ -1,6 +1,5 @@
 -- `opened_answer`, by the two cases of `Opening`. Assumes nothing.
 use Rattle.stream_answers.proofs.Terms.{opened_answer}
-use Rattle.walks.proofs.Words.{rules}
 use Rattle.stream_answers.proofs.table.opened_answer.Goals as goal
 
 pub returns-in-Refused : goal.returns-in-Refused
