@@ -98,6 +98,7 @@ pub fn payload_by<'a>(lookup: Lookup, streams: u64, limit: u64, frame: &'a [u8])
 }
 
 // Rules 2 to 8.
+#[tactic(auto, unfolding(wire::specs::Units::largest_quarter))]
 fn judge_quarter(entry: Entry, streams: u64, limit: u64, q: u64, rest: u64) -> Judged
     ensures { result ≡ if_within streams q (judged_entry entry q limit rest) }
 {

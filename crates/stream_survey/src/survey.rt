@@ -45,6 +45,7 @@ pub fn bucket(r: StreamRecord) -> usize
 }
 
 // How many of the records before place i are searched: all if the bucket is marked, or none.
+#[tactic(auto, unfolding(crate::specs::Code::searched_to))]
 pub fn searched_to(mark: u8, i: usize) -> usize
     ensures { result ≡ searched_to mark i }
 {
@@ -55,6 +56,7 @@ pub fn searched_to(mark: u8, i: usize) -> usize
 }
 
 // Whether one of the records so far has the quarter, or this one.
+#[tactic(auto, unfolding(stream_records::specs::Records::holds))]
 pub fn stands(known: bool, r: StreamRecord, quarter: Quarter) -> bool
     ensures { result ≡ (known || holds quarter.0 r) }
 {
