@@ -1,12 +1,20 @@
 -- What `Reader::open` answers, in numbers.
-use Rattle.walks.proofs.Words.{sym, ◌∙◌}
+use Rattle.walks.proofs.Words.{◌≡◌, sym, ap, ◌∙◌}
 use Rattle.reader_calls.proofs.Terms.{opened_at, open_words}
+use Rattle.reader_words.specs.Numbers.{role_of, flag_of}
+use Rattle.capsule.specs.Reader.{open_of}
 use Rattle.reader_calls.proofs.reader.open_words.Goals as goal
+use Rattle.reader_calls.proofs.reader.open_words.Goals.{After-open}
+
+-- the opening that the numbers name
+named : (c : After-open) → let o = c.args.opening in c.open.result ≡ open_of (role_of o.role) o.datagram_limit (flag_of o.draft) (flag_of o.addresses)
+named c = rw (← c.role_of.ensures, ← c.flag_of.ensures, ← c.flag_of-2.ensures) c.open.ensures
 
 pub returns-in-Refused : goal.returns-in-Refused
 unfolding open_words opened_at
-returns-in-Refused c = rw (c.refusal_number.ensures, sym c.flag_of-2.ensures, sym c.flag_of.ensures, sym c.role_of.ensures, sym c.open.ensures ∙ c.in-Refused.is)
+returns-in-Refused c =
+    rw c.refusal_number.ensures (ap (opened_at c.args.words.now) (sym c.in-Refused.is ∙ named (goal.at.returns-in-Refused c).After-open))
 
 pub returns-in-Ready : goal.returns-in-Ready
 unfolding open_words opened_at
-returns-in-Ready c = rw (c.store.ensures, sym c.flag_of-2.ensures, sym c.flag_of.ensures, sym c.role_of.ensures, sym c.open.ensures ∙ c.in-Ready.is)
+returns-in-Ready c = rw c.store.ensures (ap (opened_at c.args.words.now) (sym c.in-Ready.is ∙ named (goal.at.returns-in-Ready c).After-open))
