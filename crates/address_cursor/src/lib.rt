@@ -1,10 +1,10 @@
 // The entries of RFC 9484's address capsules (section 4.7), handed out one after another.
 #![tactic(auto)]
 
-ghost use Rattle.std.specs.Prelude.{◌≡◌, ◌+◌, ◌≤◌, length, take, drop};
-ghost use Rattle.address_cursor.specs.Handing.{without, padded, blank_address, address_answer, next_address, blank_range, range_answer, next_range};
+ghost use Rattle.std.specs.Prelude.{◌≡◌, ◌+◌, ◌≤◌, length};
+ghost use Rattle.address_cursor.specs.Handing.{padded, next_address, next_range};
 
-use addresses::{Place, RangePlace, entry_at, range_at};
+use addresses::{Malformed, entry_at, range_at};
 
 // A place in a value; a reading starts at 0.
 #[derive(Clone, Copy)]
@@ -12,11 +12,11 @@ pub struct Cursor {
     pub at: usize,
 }
 
+// What stands at a place, and the place behind it.
 #[derive(Clone, Copy)]
-pub enum Found {
-    Entry,
-    End,
-    Malformed,
+pub struct Next<T> {
+    pub entry: T,
+    pub next: Cursor,
 }
 
 // An address of IP version 4 is the first four bytes, and the others are 0.
@@ -29,13 +29,6 @@ pub struct Address {
 }
 
 #[derive(Clone, Copy)]
-pub struct NextAddress {
-    pub found: Found,
-    pub address: Address,
-    pub next: Cursor,
-}
-
-#[derive(Clone, Copy)]
 pub struct AddressRange {
     pub version: u8,
     pub start: [u8; 16],
@@ -43,103 +36,51 @@ pub struct AddressRange {
     pub protocol: u8,
 }
 
-#[derive(Clone, Copy)]
-pub struct NextRange {
-    pub found: Found,
-    pub range: AddressRange,
-    pub next: Cursor,
-}
-
-// The entry of an ADDRESS_ASSIGN or ADDRESS_REQUEST at a place; a place behind the value's end is its end.
-pub fn next_address(value: &[u8], cursor: Cursor) -> NextAddress
+// The entry of an ADDRESS_ASSIGN or ADDRESS_REQUEST at a place; none at the value's end or behind it.
+pub fn next_address(value: &[u8], cursor: Cursor) -> Result<Option<Next<Address>>, Malformed>
     ensures { result ≡ next_address value.now cursor }
 {
-    let at = cursor.at;
-    match entry_at(value, at) {
-        Place::End => no_address(Found::End, cursor),
-        Place::Malformed => no_address(Found::Malformed, cursor),
-        Place::Entry {
-            id,
-            version,
-            address,
-            width,
-        } => NextAddress {
-            found: Found::Entry,
-            address: Address {
-                id: id,
-                version: version,
-                bytes: address_bytes(value, address, width),
-                prefix: value[address + width],
-            },
-            next: Cursor {
-                at: address + width + 1,
-            },
+    let Some(entry) = entry_at(value, cursor.at)? else {
+        return Ok(None);
+    };
+    Ok(Some(Next {
+        entry: Address {
+            id: entry.id,
+            version: entry.version,
+            bytes: address_bytes(entry.address),
+            prefix: entry.prefix,
         },
-    }
+        next: Cursor { at: entry.next },
+    }))
 }
 
-// The range of a ROUTE_ADVERTISEMENT at a place; a place behind the value's end is its end.
-pub fn next_range(value: &[u8], cursor: Cursor) -> NextRange
+// The range of a ROUTE_ADVERTISEMENT at a place; none at the value's end or behind it.
+pub fn next_range(value: &[u8], cursor: Cursor) -> Result<Option<Next<AddressRange>>, Malformed>
     ensures { result ≡ next_range value.now cursor }
 {
     let at = cursor.at;
-    match range_at(value, at) {
-        RangePlace::End => no_range(Found::End, cursor),
-        RangePlace::Malformed => no_range(Found::Malformed, cursor),
-        RangePlace::Range { width } => NextRange {
-            found: Found::Entry,
-            range: AddressRange {
-                version: value[at],
-                start: address_bytes(value, at + 1, width),
-                end: address_bytes(value, at + 1 + width, width),
-                protocol: value[at + 1 + width + width],
-            },
-            next: Cursor {
-                at: at + (width + width + 2),
-            },
+    let Some(width) = range_at(value, at)? else {
+        return Ok(None);
+    };
+    Ok(Some(Next {
+        entry: AddressRange {
+            version: value[at],
+            start: address_bytes(&value[at + 1..at + 1 + width]),
+            end: address_bytes(&value[at + 1 + width..at + 1 + width + width]),
+            protocol: value[at + 1 + width + width],
         },
-    }
+        next: Cursor {
+            at: at + (width + width + 2),
+        },
+    }))
 }
 
-fn no_address(found: Found, cursor: Cursor) -> NextAddress
-    ensures { result ≡ address_answer (without blank_address found cursor) }
-{
-    NextAddress {
-        found: found,
-        address: Address {
-            id: 0,
-            version: 0,
-            bytes: [0u8; 16],
-            prefix: 0,
-        },
-        next: cursor,
-    }
-}
-
-fn address_bytes(value: &[u8], at: usize, width: usize) -> [u8; 16]
-    requires { (at + width ≤ length value.now) × (width ≤ 16) }
-    ensures { result ≡ padded (take width (drop at value.now)) }
+// An address of at most 16 bytes, and zeros behind it.
+fn address_bytes(address: &[u8]) -> [u8; 16]
+    requires { length address.now ≤ 16 }
+    ensures { result ≡ padded address.now }
 {
     let mut out = [0u8; 16];
-    let mut i = 0;
-    while i < width {
-        out[i] = value[at + i];
-        i += 1;
-    }
+    out[..address.len()].copy_from_slice(address);
     out
-}
-
-fn no_range(found: Found, cursor: Cursor) -> NextRange
-    ensures { result ≡ range_answer (without blank_range found cursor) }
-{
-    NextRange {
-        found: found,
-        range: AddressRange {
-            version: 0,
-            start: [0u8; 16],
-            end: [0u8; 16],
-            protocol: 0,
-        },
-        next: cursor,
-    }
 }

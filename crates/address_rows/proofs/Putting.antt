@@ -1,7 +1,11 @@
 -- Bytes put one after another. Assumes nothing.
-use Rattle.walks.proofs.Words.{refl, le-leb, lt-leb, leb, leb-true, leb-false, ◌≡◌, sym, ap, ◌∙◌, subst, ℕ, suc, ◌+◌, ◌*◌, ◌/◌, ◌≤◌, ◌<◌, arith, Bool, true, false, List, [], ◌∷◌, ◌++◌, length, take, drop, get_or, set, length-append, length-drop, sets, drop-cons, drop-drop, take-add, length-take-le, pow_mono}
-use Rattle.address_rows.proofs.Terms.{Written, Refused, Wrote, Refusal, Bytes, largest, least_size, encode, Writing, writing, write_varint, sets-append, least, length-encode, write_fits, write_large, impossible, width_of, all_of, range_bytes, value_bytes, Put, size_in, id_bytes, entry_put, record_bytes, gather, Gathering, gathering, put_records, value_in, Gathered, little_endian, entry_of, range_of, all_in, entries_in, id_fits}
-use Rattle.address_rows.proofs.Rows.{width_most, count, rest, rest-next, rest_end, rest_all, entry-lent, range-lent, value_put}
+use Rattle.std.specs.Prelude.{Result, Ok, Err}
+use Rattle.walks.proofs.Words.{refl, le-leb, lt-leb, leb, leb-true, leb-false, ◌≡◌, sym, ap, ◌∙◌, subst, ℕ, ◌+◌, ◌-◌, ◌*◌, ◌/◌, ◌≤◌, ◌<◌, arith, Bool, true, false, List, [], ◌∷◌, ◌++◌, length, take, drop, get_or, length-append, append_assoc, sets, sets-eq, take-take, drop-drop, length-take-le, pow_mono}
+use Rattle.std.proofs.lemmas.List.{length-take}
+use Rattle.std.specs.Simd.{first_chunks}
+use borrow.Rule.Slice.PartMut.{put_mid}
+use Rattle.address_rows.proofs.Terms.{Refusal, Bytes, largest, least_size, encode, Writing, writing, write_varint, sets-append, least, length-encode, write_fits, write_large, impossible, width_of, all_of, value_bytes, Put, size_in, id_bytes, record_bytes, gather, Gathering, gathering, put_records, value_in, Gathered, little_endian, all_in, entries_in, id_fits}
+use Rattle.address_rows.proofs.Rows.{width_most, count, rest, rest-next, rest_end, rest_all, chunk_at, record_alone, entry-lent, range-lent, value_put}
 
 pub put_as : {a b x y : List ℕ} {at r : ℕ} → Put a x at y r → a ≡ b → Put b x at y r
 put_as {x = x} {y = y} {at = at} {r = r} p e = subst (λ (l : List ℕ). Put l x at y r) e p
@@ -23,23 +27,23 @@ unfolding least_size
 size_most n = pow_mono (least n).most
 
 module _ (n : ℕ) (out : List ℕ) (at : ℕ) (h : n ≤ largest) (f : at + least_size n ≤ length out) where
-  pub put_number : (w : Written) (after : List ℕ) (size : ℕ) → writing w after ≡ write_varint n out at → size ≡ least_size n → Put (encode n) out at after (at + size)
+  pub put_number : (w : Result ℕ Refusal) (after : List ℕ) (size : ℕ) → writing w after ≡ write_varint n out at → size ≡ least_size n → Put (encode n) out at after (at + size)
   put_number w after size e z = record {
     stored = ap (λ (x : Writing). x.output) (e ∙ sym (write_fits n out at h f));
     next = omega (arith, length-encode n);
   }
 
 module _ (n : ℕ) (out : List ℕ) (at : ℕ) (f : at + 8 ≤ length out) (after : List ℕ) where
-  fits : n ≤ largest → writing (Wrote (least_size n)) (sets out at (encode n)) ≡ write_varint n out at
+  fits : n ≤ largest → writing (Ok (least_size n)) (sets out at (encode n)) ≡ write_varint n out at
   fits h = write_fits n out at h (omega (arith, size_most n))
 
-  pub put_wrote : (size : ℕ) → writing (Wrote size) after ≡ write_varint n out at → Put (id_bytes n) out at after (at + size) × (size ≤ 8)
+  pub put_wrote : (size : ℕ) → writing (Ok size) after ≡ write_varint n out at → Put (id_bytes n) out at after (at + size) × (size ≤ 8)
   put_wrote size e = go (leb n largest) refl
     where
       go : (b : Bool) → leb n largest ≡ b → Put (id_bytes n) out at after (at + size) × (size ≤ 8)
       go true l =
           let d = e ∙ sym (fits (leb-true n largest l)) in
-          let a : Wrote size ≡ Wrote (least_size n) = ap (λ (x : Writing). x.answer) d in
+          let a : Ok size ≡ Ok (least_size n) = ap (λ (x : Writing). x.answer) d in
           let z : size ≡ least_size n = cc in
           let i : id_bytes n ≡ encode n = (unfold id_bytes in rw l) in
           (put_as (record { stored = ap (λ (x : Writing). x.output) d; next = omega (arith, z, length-encode n) }) (sym i), omega (arith, z, size_most n))
@@ -47,7 +51,7 @@ module _ (n : ℕ) (out : List ℕ) (at : ℕ) (f : at + 8 ≤ length out) (afte
           let a = ap (λ (x : Writing). x.answer) (e ∙ sym (write_large n out at (leb-false n largest l))) in
           impossible (cc)
 
-  pub put_refused : (why : Refusal) → writing (Refused why) after ≡ write_varint n out at → Put (id_bytes n) out at after at
+  pub put_refused : (why : Refusal) → writing (Err why) after ≡ write_varint n out at → Put (id_bytes n) out at after at
   put_refused why e = go (leb n largest) refl
     where
       go : (b : Bool) → leb n largest ≡ b → Put (id_bytes n) out at after at
@@ -58,60 +62,51 @@ module _ (n : ℕ) (out : List ℕ) (at : ℕ) (f : at + 8 ≤ length out) (afte
           let i : id_bytes n ≡ [] = (unfold id_bytes in rw l) in
           put_as (record { stored = ap (λ (x : Writing). x.output) (e ∙ sym (write_large n out at (leb-false n largest l))); next = omega arith }) (sym i)
 
--- ---- runs
+-- ---- a part of a record
 
-module _ (s : List ℕ) (from : ℕ) where
-  run_length : (a : ℕ) → from + a ≤ length s → length (take a (drop from s)) ≡ a
-  run_length a h = length-take-le a (drop from s) (omega (arith, length-drop from s))
+-- a part that is copied
+pub put_part : (s out : List ℕ) (at n : ℕ) → length s ≡ n → at + n ≤ length out → Put s out at (put_mid at (at + n - at) out s) (at + n)
+put_part s out at n l h =
+    let e : at + n - at ≡ n = omega arith in
+    record {
+      stored = rw (e, sets-eq s out at (omega arith), l, drop-drop n at out) (sym (append_assoc (take at out) s (drop (at + n) out)));
+      next = omega arith;
+    }
 
-  pub put_four : (out : List ℕ) (at : ℕ) → from + 4 ≤ length s
-      → Put (take 4 (drop from s)) out at (set (set (set (set out at (get_or s from 0)) (at + 1) (get_or s (from + 1) 0)) (at + 2) (get_or s (from + 2) 0)) (at + 3) (get_or s (from + 3) 0)) (at + 4)
-  put_four out at h = record { stored = four; next = omega (arith, run_length 4 h) }
-    where
-      four : set (set (set (set out at (get_or s from 0)) (at + 1) (get_or s (from + 1) 0)) (at + 2) (get_or s (from + 2) 0)) (at + 3) (get_or s (from + 3) 0) ≡ sets out at (take 4 (drop from s))
-      four =
-          let t1 : at + 1 ≡ suc at = omega arith in
-          let t2 : at + 2 ≡ suc (suc at) = omega arith in
-          let t3 : at + 3 ≡ suc (suc (suc at)) = omega arith in
-          let f1 : from + 1 ≡ suc from = omega arith in
-          let f2 : from + 2 ≡ suc (suc from) = omega arith in
-          let f3 : from + 3 ≡ suc (suc (suc from)) = omega arith in
-          rw (t1, t2, t3, f1, f2, f3, drop-cons s from 0 (omega arith), drop-cons s (suc from) 0 (omega arith), drop-cons s (suc (suc from)) 0 (omega arith), drop-cons s (suc (suc (suc from))) 0 (omega arith))
+pub address-length : (s : List ℕ) (version : ℕ) → 16 ≤ length s → length (take (width_of version) s) ≡ width_of version
+address-length s version h = length-take-le (width_of version) s (omega (arith, width_most version))
 
-  pub put_halves : (a b : ℕ) {x y z : List ℕ} {at r e : ℕ} → from + (a + b) ≤ length s → Put (take a (drop from s)) x at y r → Put (take b (drop (from + a) s)) y (at + a) z e
-      → Put (take (a + b) (drop from s)) x at z e
-  put_halves a b {y = y} {z = z} {at = at} {r = r} {e = e} h p q =
-      let m : at + a ≡ r = omega (arith, p.next, run_length a (omega arith)) in
-      let t : take (a + b) (drop from s) ≡ take a (drop from s) ++ take b (drop (from + a) s) =
-      take-add a b (drop from s) ∙ ap (λ (l : List ℕ). take a (drop from s) ++ take b l) (drop-drop a from s) in
-      put_as (put_then p (subst (λ (k : ℕ). Put (take b (drop (from + a) s)) y k z e) m q)) (sym t)
+pub address_most : (s : List ℕ) (version : ℕ) → length (take (width_of version) s) ≤ 16
+address_most s version = omega (arith, width_most version, take_most (width_of version) s)
+  where
+    take_most : (n : ℕ) (s : List ℕ) → length (take n s) ≤ n
+    take_most n s = omega (arith, length-take n s)
 
-  pub address-length : (version : ℕ) → from + 16 ≤ length s → length (take (width_of version) (drop from s)) ≡ width_of version
-  address-length version h = run_length (width_of version) (omega (arith, width_most version))
-
-  pub address_most : (version : ℕ) → from + 16 ≤ length s → length (take (width_of version) (drop from s)) ≤ 16
-  address_most version h = omega (arith, width_most version, address-length version h)
+-- an address, of the bytes from its place on
+put_alone : (s : List ℕ) (version more at : ℕ) → 16 ≤ more → {x y : List ℕ} {a b : ℕ} → Put (take (width_of (get_or s version 0)) (take more (drop at s))) x a y b → Put (take (width_of (get_or s version 0)) (drop at s)) x a y b
+put_alone s version more at h p = put_as p (take-take (width_of (get_or s version 0)) more (drop at s) (omega (arith, width_most (get_or s version 0))))
 
 -- ---- a record
 
-module _ (row : List ℕ) (from : ℕ) where
-  pub put_entry : {n : ℕ} {x₁ x₂ x₃ x₄ x₅ : List ℕ} {a b c d e : ℕ} → n ≡ little_endian (take 8 (drop from row))
-      → Put (id_bytes n) x₁ a x₂ b
-      → Put (get_or row (from + 8) 0 ∷ []) x₂ b x₃ c
-      → Put (take (width_of (get_or row (from + 8) 0)) (drop (from + 10) row)) x₃ c x₄ d
-      → Put (get_or row (from + 9) 0 ∷ []) x₄ d x₅ e
-      → Put (entry_put (entry_of (drop from row))) x₁ a x₅ e
-  put_entry z p q r s =
-      put_as (put_then p (put_then q (put_then r s)))
-      (ap (λ (m : ℕ). id_bytes m ++ (get_or row (from + 8) 0 ∷ (take (width_of (get_or row (from + 8) 0)) (drop (from + 10) row) ++ (get_or row (from + 9) 0 ∷ [])))) z ∙ sym (entry-lent row from))
+pub put_entry : (s : List ℕ) {n : ℕ} {x₁ x₂ x₃ x₄ x₅ : List ℕ} {a b c d e : ℕ} → n ≡ little_endian (take 8 s)
+    → Put (id_bytes n) x₁ a x₂ b
+    → Put (get_or s 8 0 ∷ []) x₂ b x₃ c
+    → Put (take (width_of (get_or s 8 0)) (take 22 (drop 10 s))) x₃ c x₄ d
+    → Put (get_or s 9 0 ∷ []) x₄ d x₅ e
+    → Put (record_bytes false s) x₁ a x₅ e
+unfolding record_bytes
+put_entry s z p q r t =
+    put_as (put_then p (put_then q (put_then (put_alone s 8 22 10 (omega arith) r) t)))
+    (ap (λ (m : ℕ). id_bytes m ++ (get_or s 8 0 ∷ (take (width_of (get_or s 8 0)) (drop 10 s) ++ (get_or s 9 0 ∷ [])))) z ∙ sym (entry-lent s))
 
-  pub put_range : {x₁ x₂ x₃ x₄ x₅ : List ℕ} {a b c d e : ℕ} → Bytes row → from + 34 ≤ length row
-      → Put (get_or row from 0 ∷ []) x₁ a x₂ b
-      → Put (take (width_of (get_or row from 0)) (drop (from + 2) row)) x₂ b x₃ c
-      → Put (take (width_of (get_or row from 0)) (drop (from + 18) row)) x₃ c x₄ d
-      → Put (get_or row (from + 1) 0 ∷ []) x₄ d x₅ e
-      → Put (range_bytes (range_of (drop from row))) x₁ a x₅ e
-  put_range t h p q r s = put_as (put_then p (put_then q (put_then r s))) (sym (range-lent row from t h))
+pub put_range : (s : List ℕ) {x₁ x₂ x₃ x₄ x₅ : List ℕ} {a b c d e : ℕ} → Bytes s → 34 ≤ length s
+    → Put (get_or s 0 0 ∷ []) x₁ a x₂ b
+    → Put (take (width_of (get_or s 0 0)) (take 32 (drop 2 s))) x₂ b x₃ c
+    → Put (take (width_of (get_or s 0 0)) (take 16 (drop 18 s))) x₃ c x₄ d
+    → Put (get_or s 1 0 ∷ []) x₄ d x₅ e
+    → Put (record_bytes true s) x₁ a x₅ e
+unfolding record_bytes
+put_range s y h p q r t = put_as (put_then p (put_then (put_alone s 0 32 2 (omega arith) q) (put_then (put_alone s 0 16 18 (omega arith) r) t))) (sym (range-lent s y h))
 
 -- ---- all records
 
@@ -173,10 +168,13 @@ module _ (routes : Bool) (row before : List ℕ) where
   pub going_stops : {i at : ℕ} {now : List ℕ} → 1024 < at → 1058 ≤ length before → Going i at now → gathering at now ≡ put_records routes row before
   going_stops {i} {at} l h g = going_done (gather-full at (parts i) l) h g
 
-  -- the same by the size that the code has
+  -- the same by the size and the chunks that the code has
   module _ (n : ℕ) (e : n ≡ size_in routes) (i : ℕ) where
-    pub turn : {at r : ℕ} {now after : List ℕ} → i < length row / n → at ≤ 1024 → Going i at now → Put (record_bytes routes (drop (n * i) row)) now at after r → Going (i + 1) r after
-    turn h k g p = going_on (rw e at h) k g (rw e at p)
+    pub turn : (chunks : List (List ℕ)) (s : List ℕ) {at r : ℕ} {now after : List ℕ} → chunks ≡ first_chunks n (length row / n) row → s ≡ get_or chunks i s
+        → i < length row / n → at ≤ 1024 → Going i at now → Put (record_bytes routes s) now at after r → Going (i + 1) r after
+    turn chunks s f is_s h k g p =
+        let c : s ≡ take n (drop (n * i) row) = is_s ∙ ap (λ (l : List (List ℕ)). get_or l i s) f ∙ chunk_at n (length row / n) row i s h in
+        going_on (rw e at h) k g (put_as p (ap (record_bytes routes) c ∙ rw e (record_alone routes (drop (size_in routes * i) row))))
 
     pub turns_end : {at : ℕ} {now : List ℕ} → length row / n ≤ i → 1058 ≤ length before → Going i at now → gathering at now ≡ put_records routes row before
     unfolding gather

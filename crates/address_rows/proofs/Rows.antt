@@ -1,24 +1,25 @@
 -- Records of a row, and numbers in them. Assumes nothing.
-use Rattle.walks.proofs.Words.{◌≡◌, refl, sym, ap, ◌∙◌, ℕ, zero, suc, ◌+◌, ◌-◌, ◌*◌, ◌/◌, ◌^◌, ◌≤◌, ◌<◌, pow-succ', div-le_self, arith, Bool, true, false, cond, ◌&&◌, List, [], ◌∷◌, ◌++◌, length, take, drop, get_or, length-drop, drop-cons, drop-drop, get_or-drop, take-add, length-take-le, leb, eqb, le-leb, lt-leb, leb-true}
+use Rattle.walks.proofs.Words.{◌≡◌, refl, sym, ap, ◌∙◌, ℕ, zero, suc, ◌+◌, ◌-◌, ◌*◌, ◌/◌, ◌≤◌, ◌<◌, arith, Bool, true, false, cond, ◌&&◌, List, [], ◌∷◌, ◌++◌, length, take, drop, get_or, get_or-take, take-take, length-drop, drop-drop, length-take-le, leb, eqb, le-leb, lt-leb, leb-true}
+use Rattle.std.proofs.lemmas.List.{drop-take}
+use Rattle.std.specs.Int.{from_le_bytes, w64}
+use Rattle.std.specs.Simd.{first_chunks}
 use Rattle.address_rows.proofs.Terms.{Bytes, num, bytes_of, largest, bytes_of-num, bytes_take, bytes_drop, width_of, all_of, Entry, entry_bytes, range_bytes, value_bytes, both, entry_put, id_bytes, little_endian, entry_of, range_of, first_of, all_in, entries_in, ranges_in, id_fits, size_in, record_bytes, value_in}
 
 -- ---- numbers
 
-pub little_one : (s : List ℕ) (at : ℕ) → at < length s → get_or s at 0 ≡ little_endian (take 1 (drop at s))
+-- the first eight bytes, as the library reads them
+pub little_eight : (s : List ℕ) → length s ≡ 8 → from_le_bytes w64 s ≡ little_endian s
 unfolding little_endian
-little_one s at h = rw (drop-cons s at 0 h) (omega arith)
-
-little_append : (s t : List ℕ) → little_endian (s ++ t) ≡ little_endian s + little_endian t * 256 ^ length s
-unfolding little_endian
-little_append [] t = omega arith
-little_append (b ∷ s) t = rw (little_append s t, pow-succ' 256 (length s)) (omega arith)
-
-pub little_halves : (s : List ℕ) (at a b x y : ℕ) → at + (a + b) ≤ length s → x ≡ little_endian (take a (drop at s)) → y ≡ little_endian (take b (drop (at + a) s))
-    → x + y * 256 ^ a ≡ little_endian (take (a + b) (drop at s))
-little_halves s at a b x y h is_x is_y =
-    let l : length (take a (drop at s)) ≡ a = length-take-le a (drop at s) (omega (arith, length-drop at s)) in
-    let j = little_append (take a (drop at s)) (take b (drop (at + a) s)) in
-    rw (take-add a b (drop at s), drop-drop a at s, j, l, is_x, is_y)
+little_eight [] h = absurd (omega arith)
+little_eight (a ∷ []) h = absurd (omega arith)
+little_eight (a ∷ (b ∷ [])) h = absurd (omega arith)
+little_eight (a ∷ (b ∷ (c ∷ []))) h = absurd (omega arith)
+little_eight (a ∷ (b ∷ (c ∷ (d ∷ [])))) h = absurd (omega arith)
+little_eight (a ∷ (b ∷ (c ∷ (d ∷ (e ∷ []))))) h = absurd (omega arith)
+little_eight (a ∷ (b ∷ (c ∷ (d ∷ (e ∷ (f ∷ [])))))) h = absurd (omega arith)
+little_eight (a ∷ (b ∷ (c ∷ (d ∷ (e ∷ (f ∷ (g ∷ []))))))) h = absurd (omega arith)
+little_eight (a ∷ (b ∷ (c ∷ (d ∷ (e ∷ (f ∷ (g ∷ (i ∷ [])))))))) h = omega arith
+little_eight (a ∷ (b ∷ (c ∷ (d ∷ (e ∷ (f ∷ (g ∷ (i ∷ (j ∷ s))))))))) h = absurd (omega arith)
 
 -- ---- records
 
@@ -43,13 +44,19 @@ module _ {A : Type 0} (size : ℕ) (entry : List ℕ → A) (row : List ℕ) (co
       let m : size * 0 ≡ 0 = omega arith in
       rw (e, m)
 
+-- a chunk of a row is what stands there, as far as a record reaches
+pub chunk_at : (size k : ℕ) (row : List ℕ) (i : ℕ) (d : List ℕ) → i < k → get_or (first_chunks size k row) i d ≡ take size (drop (size * i) row)
+chunk_at size zero row i d h = absurd (omega arith)
+chunk_at size (suc k) row zero d h = let e : size * 0 ≡ 0 = omega arith in rw e
+chunk_at size (suc k) row (suc i) d h =
+    let e : size * suc i ≡ size + size * i = omega arith in
+    chunk_at size k (drop size row) i d (omega arith) ∙ rw (e, drop-drop (size * i) size row)
+
 -- what is put of an entry, as it is lent
-pub entry-lent : (row : List ℕ) (from : ℕ)
-    → entry_put (entry_of (drop from row))
-    ≡ id_bytes (little_endian (take 8 (drop from row)))
-    ++ (get_or row (from + 8) 0 ∷ (take (width_of (get_or row (from + 8) 0)) (drop (from + 10) row) ++ (get_or row (from + 9) 0 ∷ [])))
+pub entry-lent : (s : List ℕ)
+    → entry_put (entry_of s) ≡ id_bytes (little_endian (take 8 s)) ++ (get_or s 8 0 ∷ (take (width_of (get_or s 8 0)) (drop 10 s) ++ (get_or s 9 0 ∷ [])))
 unfolding entry_put entry_of
-entry-lent row from = rw (get_or-drop from row 8 0, get_or-drop from row 9 0, drop-drop 10 from row)
+entry-lent s = refl
 
 pub width_most : (version : ℕ) → width_of version ≤ 16
 unfolding width_of
@@ -66,16 +73,35 @@ again s w at b h =
     rw l at (bytes_of-num (take w (drop at s)) (bytes_take w (drop at s) (bytes_drop at s b)))
 
 -- and of a range, whose addresses are the bytes that they were
-pub range-lent : (row : List ℕ) (from : ℕ) → Bytes row → from + 34 ≤ length row
-    → range_bytes (range_of (drop from row))
-    ≡ get_or row from 0
-    ∷ (take (width_of (get_or row from 0)) (drop (from + 2) row) ++ (take (width_of (get_or row from 0)) (drop (from + 18) row) ++ (get_or row (from + 1) 0 ∷ [])))
+pub range-lent : (s : List ℕ) → Bytes s → 34 ≤ length s
+    → range_bytes (range_of s)
+    ≡ get_or s 0 0 ∷ (take (width_of (get_or s 0 0)) (drop 2 s) ++ (take (width_of (get_or s 0 0)) (drop 18 s) ++ (get_or s 1 0 ∷ [])))
 unfolding range_bytes range_of
-range-lent row from b h =
-    let w : ℕ = width_of (get_or row from 0) in
-    let m : w ≤ 16 = width_most (get_or row from 0) in
-    let z : from + 0 ≡ from = omega arith in
-    rw (get_or-drop from row 0 0, z, get_or-drop from row 1 0, drop-drop 2 from row, drop-drop 18 from row, again row w (from + 2) b (omega arith), again row w (from + 18) b (omega arith))
+range-lent s b h =
+    let w : ℕ = width_of (get_or s 0 0) in
+    let m : w ≤ 16 = width_most (get_or s 0 0) in
+    rw (again s w 2 b (omega arith), again s w 18 b (omega arith))
+
+part : (w at more : ℕ) (s : List ℕ) → w ≤ more → take w (drop at (take (at + more) s)) ≡ take w (drop at s)
+part w at more s h = ap (take w) (drop-take at more s) ∙ take-take w more (drop at s) h
+
+range_alone : (s : List ℕ) → range_of (take 34 s) ≡ range_of s
+unfolding range_of
+range_alone s =
+    let m : width_of (get_or s 0 0) ≤ 16 = width_most (get_or s 0 0) in
+    rw (get_or-take 34 s 0 0 (omega arith), get_or-take 34 s 1 0 (omega arith), part (width_of (get_or s 0 0)) 2 32 s (omega arith), part (width_of (get_or s 0 0)) 18 16 s m)
+
+entry_alone : (s : List ℕ) → entry_of (take 32 s) ≡ entry_of s
+unfolding entry_of
+entry_alone s =
+    let m : width_of (get_or s 8 0) ≤ 16 = width_most (get_or s 8 0) in
+    rw (get_or-take 32 s 8 0 (omega arith), get_or-take 32 s 9 0 (omega arith), take-take 8 32 s (omega arith), part (width_of (get_or s 8 0)) 10 22 s (omega arith))
+
+-- nothing but the record is looked at
+pub record_alone : (routes : Bool) (s : List ℕ) → record_bytes routes (take (size_in routes) s) ≡ record_bytes routes s
+unfolding record_bytes size_in
+record_alone true s = ap range_bytes (range_alone s)
+record_alone false s = ap entry_put (entry_alone s)
 
 -- ---- of addresses and of ranges alike
 
@@ -97,21 +123,13 @@ unfolding value_in record_bytes size_in ranges_in entries_in all_in
 value_put true row h = value_of 34 range_of range_bytes (length row / 34) row
 value_put false row h = value_of 32 entry_of entry_put (length row / 32) row ∙ entries_put (first_of 32 entry_of (length row / 32) row) (h refl)
 
-module _ (routes : Bool) (row : List ℕ) where
-  abbrev pub count : ℕ
-  count = length row / size_in routes
+pub size_some : (routes : Bool) (n : ℕ) → n ≡ size_in routes → (0 < n) × (n ≤ 34)
+unfolding size_in
+size_some true n e = (omega arith, omega arith)
+size_some false n e = (omega arith, omega arith)
 
-  -- by the size that the code has
-  module _ (size : ℕ) (e : size ≡ size_in routes) (i : ℕ) (h : i < length row / size) where
-    pub inside : size * i + size ≤ length row
-    inside = (unfold size_in in go routes e)
-      where
-        go : (b : Bool) → size ≡ cond b 34 32 → size * i + size ≤ length row
-        go true d = let k : i < length row / 34 = rw d at h in rw d (omega arith)
-        go false d = let k : i < length row / 32 = rw d at h in rw d (omega arith)
-
-    pub few : i < length row
-    few = omega (arith, div-le_self (length row) size)
+abbrev pub count : Bool → List ℕ → ℕ
+count routes row = length row / size_in routes
 
 -- ---- request IDs
 
@@ -129,6 +147,9 @@ module _ (row : List ℕ) where
 
   abbrev pub id_at : ℕ → ℕ
   id_at i = little_endian (take 8 (drop (32 * i) row))
+
+  pub id_of_chunk : (chunks : List (List ℕ)) (i : ℕ) (d : List ℕ) → chunks ≡ first_chunks 32 (length row / 32) row → i < length row / 32 → little_endian (take 8 (get_or chunks i d)) ≡ id_at i
+  id_of_chunk chunks i d e h = rw (e, chunk_at 32 (length row / 32) row i d h, take-take 8 32 (drop (32 * i) row) (omega arith))
 
   ids_next : (i : ℕ) → i < length row / 32 → all_of id_fits (ids i) ≡ leb (id_at i) largest && all_of id_fits (ids (i + 1))
   unfolding all_of id_fits entry_of

@@ -5,6 +5,6 @@ pub use Rattle.addresses.proofs.{Lists.both, Lists.impossible}
 pub use Rattle.addresses.specs.{Addresses.Entry}
 unfoldable pub use Rattle.addresses.specs.{Addresses.all_of, Addresses.width_of, Encoding.entry_bytes, Encoding.range_bytes, Encoding.value_bytes}
 pub use Rattle.wire.proofs.{Encoding.least, Encoding.length-encode, Encoding.write_fits, Encoding.write_large, Numbers.bytes_drop, Numbers.bytes_each, Numbers.bytes_take, Numbers.bytes_of-num, Numbers.sets-append}
-pub use Rattle.wire.specs.{Bytes.Bytes, Writing.Writing, Writing.writing, declared.varint.Written.Written, declared.varint.Written.TheVariants.Refused, declared.varint.Written.TheVariants.Wrote}
+pub use Rattle.wire.specs.{Bytes.Bytes, Writing.Writing, Writing.writing}
 pub use Rattle.refusals.specs.{declared.Refusal.Refusal}
 unfoldable pub use Rattle.wire.specs.{Bytes.bytes_of, Bytes.num, Varint.encode, Varint.largest, Varint.least_size, Writing.write_varint}

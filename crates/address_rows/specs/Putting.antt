@@ -1,5 +1,5 @@
 -- The value of an address capsule, put together from a row of records.
-use Rattle.std.specs.Prelude.{ℕ, ◌+◌, ◌≤◌, ◌<◌, ◌≡◌, Bool, cond, List, [], ◌∷◌, ◌++◌, length, leb}
+use Rattle.std.specs.Prelude.{ℕ, ◌+◌, ◌≤◌, ◌<◌, ◌≡◌, Bool, true, false, cond, refl, List, [], ◌∷◌, ◌++◌, length, leb}
 use Rattle.std.proofs.lemmas.List.Edits.{sets}
 use Rattle.wire.specs.Varint.{largest, encode}
 use Rattle.addresses.specs.Addresses.{Entry}
@@ -14,6 +14,14 @@ pub record Put (bytes before : List ℕ) (at : ℕ) (after : List ℕ) (r : ℕ)
 -- records of ranges, or of addresses
 unfoldable pub size_in : Bool → ℕ
 size_in routes = cond routes range_size entry_size
+
+pub entry_record : 32 ≡ size_in false
+unfolding size_in
+entry_record = refl
+
+pub range_record : 34 ≡ size_in true
+unfolding size_in
+range_record = refl
 
 -- a request ID as a varint; of one that no varint holds, nothing
 unfoldable pub id_bytes : ℕ → List ℕ

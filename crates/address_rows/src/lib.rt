@@ -1,119 +1,121 @@
 // Rows of records (RFC 9484, section 4.7), lent by a host: the value of an address capsule put together from them.
 #![tactic(auto)]
 
-ghost use Rattle.std.specs.Prelude.{◌≡◌, true, false, [], ◌∷◌, ◌+◌, ◌≤◌, ◌<◌, length, take, drop};
+ghost use Rattle.std.specs.Prelude.{◌≡◌, Bool, true, false, [], ◌∷◌, ◌+◌, ◌≤◌, ◌<◌, length, take};
 ghost use Rattle.addresses.specs.Addresses.{width_of, all_of};
-ghost use Rattle.addresses.specs.Encoding.{range_bytes};
-ghost use Rattle.address_rows.specs.Rows.{little_endian, entry_of, range_of, entries_in, id_fits};
-ghost use Rattle.address_rows.specs.Putting.{Put, size_in, id_bytes, entry_put, record_bytes, gathering, put_records};
+ghost use Rattle.address_rows.specs.Rows.{little_endian, entries_in, id_fits};
+ghost use Rattle.address_rows.specs.Putting.{Put, size_in, id_bytes, record_bytes, gathering, put_records, entry_record, range_record};
 
+use addresses::width_of;
 use opening::Kind;
-use wire::varint::{Varint, Written, write_varint};
+use wire::varint::{Varint, write_varint};
+
+// How many bytes a record of an address has, and one of a range.
+pub const ENTRY_SIZE: usize = 32;
+
+pub const RANGE_SIZE: usize = 34;
 
 // Whether a varint holds the request ID of every record.
-#[tactic(auto, using(crate::proofs::Rows::ids_large), unfolding(wire::specs::Varint::largest))]
 pub fn ids_fit(row: &[u8]) -> bool
     ensures { result ≡ all_of id_fits (entries_in row.now) }
 {
-    let count = row.len() / 32;
-    let mut i: usize = 0;
-    while i < count {
-        if number8(row, 32 * i) > Varint::MAX {
+    let (records, _) = row.as_chunks::<ENTRY_SIZE>();
+    for record in records {
+        if request_id(record) > Varint::MAX {
             return false;
         }
-        i += 1;
     }
     true
 }
 
-// ---- a value put together: each of these puts bytes at a place where there is room, and answers the place after them
+// ---- a value put together: all records, or so many that the value is too long
 
-pub fn record_size(routes: bool) -> usize
-    ensures { (result ≡ size_in routes) × (0 < result) }
+// 1,058 bytes are room enough, and in fewer nothing is put. Two names for callers, over one function.
+pub fn put_entries(row: &[u8], out: &mut [u8]) -> usize
+    ensures bytes { gathering result out.new ≡ put_records false row.now out.old }
+    ensures within { result ≤ length out.new }
 {
-    if routes { 34 } else { 32 }
+    put_records::<Entries, ENTRY_SIZE>(row, out)
 }
 
-// All records, or so many that the value is too long: 1,058 bytes are room enough, and in fewer nothing is put.
-#[tactic(auto, using(crate::proofs::Putting::going_stops))]
-pub fn put_records(routes: bool, row: &[u8], out: &mut [u8]) -> usize
-    ensures { gathering result out.new ≡ put_records routes row.now out.old }
+pub fn put_ranges(row: &[u8], out: &mut [u8]) -> usize
+    ensures bytes { gathering result out.new ≡ put_records true row.now out.old }
+    ensures within { result ≤ length out.new }
+{
+    put_records::<Ranges, RANGE_SIZE>(row, out)
+}
+
+fn put_records<R: Record<N>, const N: usize>(row: &[u8], out: &mut [u8]) -> usize
+    ensures bytes { gathering result out.new ≡ put_records R.routes row.now out.old }
+    ensures within { result ≤ length out.new }
 {
     if out.len() < 1058 {
         return 0;
     }
-    let size = record_size(routes);
-    let count = row.len() / size;
+    let (records, _) = row.as_chunks::<N>();
     let mut at: usize = 0;
-    let mut i: usize = 0;
-    while i < count {
+    for record in records {
         if (at as u64) > Kind::LONGEST_ADDRESS_VALUE {
             return at;
         }
-        at = put_record(routes, row, size * i, out, at);
-        i += 1;
+        at = R::put(record, out, at);
     }
     at
 }
 
-fn number8(s: &[u8], at: usize) -> u64
-    requires { at + 8 ≤ length s.now }
-    ensures { result ≡ little_endian (take 8 (drop at s.now)) }
-{
-    number4(s, at) + number4(s, at + 4) * 4294967296
+// ---- a record; each of these puts bytes at a place where there is room, and answers the place after them
+
+// Records of N bytes: of ranges (`routes`), or of addresses. An output and a place in it, here and below: what was put
+// before stays.
+trait Record<const N: usize> {
+    ghost routes: { Bool };
+
+    fn put(bytes: &[u8; N], out: &mut [u8], at: usize) -> usize
+        requires { at + 34 ≤ length out.old }
+        ensures { Put (record_bytes routes bytes.now) out.old at out.new result × (result ≤ at + 34) };
+
+    ghost size: { N ≡ size_in routes };
 }
 
-fn number4(s: &[u8], at: usize) -> u64
-    requires { at + 4 ≤ length s.now }
-    ensures { (result ≡ little_endian (take 4 (drop at s.now))) × (result < 4294967296) }
-{
-    number2(s, at) + number2(s, at + 2) * 65536
-}
+struct Entries;
 
-// The number of 2, of 4 and of 8 bytes, the least significant first.
-fn number2(s: &[u8], at: usize) -> u64
-    requires { at + 2 ≤ length s.now }
-    ensures { (result ≡ little_endian (take 2 (drop at s.now))) × (result < 65536) }
-{
-    wide(s[at]) + wide(s[at + 1]) * 256
-}
+impl Record<ENTRY_SIZE> for Entries {
+    ghost routes = { false };
 
-fn wide(b: u8) -> u64
-    ensures { result ≡ b }
-{
-    b as u64
-}
+    ghost size = { entry_record };
 
-fn put_record(routes: bool, row: &[u8], from: usize, out: &mut [u8], at: usize) -> usize
-    requires { (from + size_in routes ≤ length row.now) × (at + 34 ≤ length out.old) }
-    ensures { Put (record_bytes routes (drop from row.now)) out.old at out.new result }
-{
-    if routes {
-        return put_range(row, from, out, at);
+    fn put(bytes: &[u8; ENTRY_SIZE], out: &mut [u8], at: usize) -> usize {
+        let version = bytes[8];
+        let a = put_number(request_id(bytes), out, at);
+        let b = put_byte(version, out, a);
+        let c = put_address(version, &bytes[10..], out, b);
+        put_byte(bytes[9], out, c)
     }
-    put_entry(row, from, out, at)
 }
 
-fn put_range(row: &[u8], from: usize, out: &mut [u8], at: usize) -> usize
-    requires { (from + 34 ≤ length row.now) × (at + 34 ≤ length out.old) }
-    ensures { Put (range_bytes (range_of (drop from row.now))) out.old at out.new result }
-{
-    let version = row[from];
-    let a = put_byte(version, out, at);
-    let b = put_address(version, row, from + 2, out, a);
-    let c = put_address(version, row, from + 18, out, b);
-    put_byte(row[from + 1], out, c)
+struct Ranges;
+
+impl Record<RANGE_SIZE> for Ranges {
+    ghost routes = { true };
+
+    ghost size = { range_record };
+
+    fn put(bytes: &[u8; RANGE_SIZE], out: &mut [u8], at: usize) -> usize {
+        let version = bytes[0];
+        let a = put_byte(version, out, at);
+        let b = put_address(version, &bytes[2..], out, a);
+        let c = put_address(version, &bytes[18..], out, b);
+        put_byte(bytes[1], out, c)
+    }
 }
 
-fn put_entry(row: &[u8], from: usize, out: &mut [u8], at: usize) -> usize
-    requires { (from + 32 ≤ length row.now) × (at + 34 ≤ length out.old) }
-    ensures { Put (entry_put (entry_of (drop from row.now))) out.old at out.new result }
+// The least significant byte stands first.
+fn request_id(bytes: &[u8; ENTRY_SIZE]) -> u64
+    ensures { result ≡ little_endian (take 8 bytes.now) }
 {
-    let version = row[from + 8];
-    let a = put_number(number8(row, from), out, at);
-    let b = put_byte(version, out, a);
-    let c = put_address(version, row, from + 10, out, b);
-    put_byte(row[from + 9], out, c)
+    let mut id = [0u8; 8];
+    id.copy_from_slice(&bytes[..8]);
+    u64::from_le_bytes(id)
 }
 
 fn put_byte(b: u8, out: &mut [u8], at: usize) -> usize
@@ -125,48 +127,13 @@ fn put_byte(b: u8, out: &mut [u8], at: usize) -> usize
 }
 
 // An address, of no version none.
-fn put_address(version: u8, s: &[u8], from: usize, out: &mut [u8], at: usize) -> usize
-    requires { (from + 16 ≤ length s.now) × (at + 16 ≤ length out.old) }
-    ensures { Put (take (width_of version) (drop from s.now)) out.old at out.new result }
+fn put_address(version: u8, address: &[u8], out: &mut [u8], at: usize) -> usize
+    requires { (16 ≤ length address.now) × (at + 16 ≤ length out.old) }
+    ensures { Put (take (width_of version) address.now) out.old at out.new result }
 {
-    if version == 4 {
-        return put4(s, from, out, at);
-    }
-    if version == 6 {
-        return put16(s, from, out, at);
-    }
-    at
-}
-
-fn put4(s: &[u8], from: usize, out: &mut [u8], at: usize) -> usize
-    requires { (from + 4 ≤ length s.now) × (at + 4 ≤ length out.old) }
-    ensures { Put (take 4 (drop from s.now)) out.old at out.new result }
-{
-    let a = s[from];
-    let b = s[from + 1];
-    let c = s[from + 2];
-    let d = s[from + 3];
-    out[at] = a;
-    out[at + 1] = b;
-    out[at + 2] = c;
-    out[at + 3] = d;
-    at + 4
-}
-
-fn put16(s: &[u8], from: usize, out: &mut [u8], at: usize) -> usize
-    requires { (from + 16 ≤ length s.now) × (at + 16 ≤ length out.old) }
-    ensures { Put (take 16 (drop from s.now)) out.old at out.new result }
-{
-    put8(s, from, out, at);
-    put8(s, from + 8, out, at + 8)
-}
-
-fn put8(s: &[u8], from: usize, out: &mut [u8], at: usize) -> usize
-    requires { (from + 8 ≤ length s.now) × (at + 8 ≤ length out.old) }
-    ensures { Put (take 8 (drop from s.now)) out.old at out.new result }
-{
-    put4(s, from, out, at);
-    put4(s, from + 4, out, at + 4)
+    let width = width_of(version);
+    out[at..at + width].copy_from_slice(&address[..width]);
+    at + width
 }
 
 // An ID; of one that no varint holds, nothing.
@@ -175,7 +142,7 @@ fn put_number(n: u64, out: &mut [u8], at: usize) -> usize
     ensures { Put (id_bytes n) out.old at out.new result × (result ≤ at + 8) }
 {
     match write_varint(n, out, at) {
-        Written::Wrote(size) => at + size,
-        Written::Refused(_) => at,
+        Ok(size) => at + size,
+        Err(_) => at,
     }
 }

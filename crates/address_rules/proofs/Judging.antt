@@ -1,41 +1,63 @@
 -- What the code's tests say of ranges at their places, and of values. Assumes nothing.
-use Rattle.walks.proofs.Words.{◌≡◌, refl, sym, ap, ◌∙◌, Bool, true, false, cond, ◌&&◌, ◌||◌, or-true, Option, none, some, ℕ, ◌+◌, ◌≤◌, ◌<◌, arith, List, [], ◌∷◌, ◌++◌, length, get_or, take, drop, drop_of_length-le, length-append, ltb, eqb, lt-ltb, le-ltb, eq-eqb, ne_eqb, eqb-true}
-use Rattle.address_rules.proofs.Terms.{num, Step, done, malformed, next, onwards, entries_by, entries, are_good, width_of, Entry, asks, good_requests, entry_at, Range, range_at, good_range, before, disjoint, all_of, good_ranges, Seen, nothing, follows, same_of, clear_from, fits, after, pass, range_in, range_placed, RangeRead, Stands, Preceded, nth, Later, Rising, RangePlace, both, judged-end, judged_malformed, judged-next}
-use Rattle.addresses.specs.declared.RangePlace.TheVariants as range-place
+use Rattle.walks.proofs.Words.{◌≡◌, refl, sym, ap, ◌∙◌, Bool, true, false, cond, ◌&&◌, ◌||◌, or-true, Option, None, Some, ℕ, ◌+◌, ◌≤◌, ◌<◌, arith, List, [], ◌∷◌, ◌++◌, length, get_or, drop, drop_of_length-le, length-append, length-drop, length-take-le, ltb, eqb, lt-ltb, le-ltb, eq-eqb, ne_eqb, eqb-true}
+use Rattle.address_rules.proofs.Terms.{Bytes, bytes_take, bytes_drop, Step, done, malformed, next, onwards, entries_by, entries, are_good, width_of, Entry, asks, good_requests, entry_at, Range, range_at, good_range, before, disjoint, all_of, good_ranges, Seen, nothing, follows, same_of, clear_from, fits, after, pass, range_in, range_placed, range_lent, RangeBytes, Lent, Wide, started_at, RangeRead, Stands, Preceded, nth, Later, Rising, Malformed, both, judged-end, judged_malformed, judged-next}
+use Rattle.std.specs.Prelude.{Result, Ok, Err}
 use Rattle.addresses.proofs.Reading as L
 use Rattle.address_rules.proofs.{Pairs.pass-is_rule, Search.Ranks, Search.rising_none, Search.ranks_more, Search.stands-length, Order.is_good, Order.before_zero}
 
 -- ---- two ranges
 
-module _ (v : List ℕ) (at s w : ℕ) where
-  pub clear_zero : get_or v (s + 1 + w + w) 0 ≤ 0
-      → ltb (num (take w (drop (s + 1 + w) v))) (num (take w (drop (at + 1) v))) || ltb (num (take w (drop (at + 1 + w) v))) (num (take w (drop (s + 1) v))) ≡ clear_from (range_in v at w) (range_in v s w)
-  unfolding clear_from range_in disjoint
-  clear_zero h = rw (le-ltb 0 (get_or v (s + 1 + w + w) 0) h)
+module _ (r s : Range) where
+  pub clear_other : 0 < s.protocol → true ≡ clear_from r s
+  unfolding clear_from
+  clear_other h = rw (lt-ltb 0 s.protocol h)
 
-module _ (v : List ℕ) (p at w : ℕ) (is_w : w ≡ width_of (get_or v at 0)) where
-  abbrev Before : Bool → Type 0
-  Before b = b ≡ before (range_in v p (width_of (get_or v p 0))) (range_in v at w)
+  pub clear_zero : s.protocol ≤ 0 → ltb s.end r.start || ltb r.end s.start ≡ clear_from r s
+  unfolding clear_from disjoint
+  clear_zero h = rw (le-ltb 0 s.protocol h)
 
-  pub before_newer : get_or v p 0 < get_or v at 0 → Before true
-  unfolding before range_in
-  before_newer h = rw (lt-ltb (get_or v p 0) (get_or v at 0) h)
+module _ (p r : Range) where
+  pub before_newer : p.version < r.version → true ≡ before p r
+  unfolding before
+  before_newer h = rw (lt-ltb p.version r.version h)
 
-  pub before_older : get_or v at 0 < get_or v p 0 → Before false
-  unfolding before range_in
-  before_older h = rw (le-ltb (get_or v p 0) (get_or v at 0) (omega arith), ne_eqb (get_or v p 0) (get_or v at 0) (λ e. omega arith))
+  pub before_older : r.version < p.version → false ≡ before p r
+  unfolding before
+  before_older h = rw (le-ltb p.version r.version (omega arith), ne_eqb p.version r.version (λ e. omega arith))
 
-  pub before_more : get_or v p 0 ≡ get_or v at 0 → get_or v (p + 1 + w + w) 0 < get_or v (at + 1 + w + w) 0 → Before true
-  unfolding before range_in
-  before_more e h = rw (e, ← is_w, le-ltb (get_or v at 0) (get_or v at 0) (omega arith), eq-eqb (get_or v at 0) (get_or v at 0) refl, lt-ltb (get_or v (p + 1 + w + w) 0) (get_or v (at + 1 + w + w) 0) h)
+  module _ (e : p.version ≡ r.version) where
+    pub before_more : p.protocol < r.protocol → true ≡ before p r
+    unfolding before
+    before_more h = rw (le-ltb p.version r.version (omega arith), eq-eqb p.version r.version e, lt-ltb p.protocol r.protocol h)
 
-  pub before-less : get_or v p 0 ≡ get_or v at 0 → get_or v (at + 1 + w + w) 0 < get_or v (p + 1 + w + w) 0 → Before false
-  unfolding before range_in
-  before-less e h = rw (e, ← is_w, le-ltb (get_or v at 0) (get_or v at 0) (omega arith), eq-eqb (get_or v at 0) (get_or v at 0) refl, le-ltb (get_or v (p + 1 + w + w) 0) (get_or v (at + 1 + w + w) 0) (omega arith), ne_eqb (get_or v (p + 1 + w + w) 0) (get_or v (at + 1 + w + w) 0) (λ e. omega arith))
+    pub before-less : r.protocol < p.protocol → false ≡ before p r
+    unfolding before
+    before-less h = rw (le-ltb p.version r.version (omega arith), eq-eqb p.version r.version e, le-ltb p.protocol r.protocol (omega arith), ne_eqb p.protocol r.protocol (λ e. omega arith))
 
-  pub before_same : get_or v p 0 ≡ get_or v at 0 → get_or v (p + 1 + w + w) 0 ≡ get_or v (at + 1 + w + w) 0 → Before (ltb (num (take w (drop (p + 1 + w) v))) (num (take w (drop (at + 1) v))))
-  unfolding before range_in
-  before_same e h = rw (e, ← is_w, le-ltb (get_or v at 0) (get_or v at 0) (omega arith), eq-eqb (get_or v at 0) (get_or v at 0) refl, h, le-ltb (get_or v (at + 1 + w + w) 0) (get_or v (at + 1 + w + w) 0) (omega arith), eq-eqb (get_or v (at + 1 + w + w) 0) (get_or v (at + 1 + w + w) 0) refl)
+    pub before_same : p.protocol ≡ r.protocol → ltb p.end r.start ≡ before p r
+    unfolding before
+    before_same h = rw (le-ltb p.version r.version (omega arith), eq-eqb p.version r.version e, le-ltb p.protocol r.protocol (omega arith), eq-eqb p.protocol r.protocol h)
+
+-- ---- a range that is lent
+
+pub preceded_wide : (o : Option Range) (r : RangeBytes) → Preceded o (Some r) → Wide (width_of r.version) r
+preceded_wide None r h = absurd h
+preceded_wide (Some p) r h = h.1
+
+pub protocol_in : (v : List ℕ) (at w : ℕ) → (range_in v at w).protocol ≡ get_or v (at + 1 + w + w) 0
+unfolding range_in
+protocol_in v at w = refl
+
+module _ (v : List ℕ) (at w : ℕ) (r : RangeBytes) (l : Lent v at w r) where
+  pub lent_is : range_lent r ≡ range_in v at w
+  unfolding range_lent range_in
+  lent_is = rw (l.0, l.1, l.2, l.3)
+
+  pub lent_wide : Bytes v → at + (w + w + 2) ≤ length v → Wide w r
+  lent_wide b h =
+      let s : length r.start.now ≡ w = ap length l.1 ∙ length-take-le w (drop (at + 1) v) (omega (arith, length-drop (at + 1) v)) in
+      let e : length r.end.now ≡ w = ap length l.2 ∙ length-take-le w (drop (at + 1 + w) v) (omega (arith, length-drop (at + 1 + w) v)) in
+      (s, e, rw l.1 (bytes_take w (drop (at + 1) v) (bytes_drop (at + 1) v b)), rw l.2 (bytes_take w (drop (at + 1 + w) v) (bytes_drop (at + 1 + w) v b)))
 
 -- ---- ranges that stand one after another
 
@@ -53,67 +75,62 @@ module _ (st : Seen) (v : List ℕ) (at : ℕ) where
   abbrev judged : Seen → ℕ → Bool
   judged seen i = are_good (pass seen) (entries range_at (drop i v))
 
-  abbrev pub Turn : RangePlace → Type 0
-  Turn range-place.End = true ≡ judged st at
-  Turn range-place.Malformed = false ≡ judged st at
-  Turn (range-place.Range w) = let r = range_in v at w in fits st r && judged (after st r) (at + (w + w + 2)) ≡ judged st at
+  abbrev pub Turn : Result (Rattle.std.specs.Prelude.Option ℕ) Malformed → Type 0
+  Turn (Ok None) = true ≡ judged st at
+  Turn (Err m) = false ≡ judged st at
+  Turn (Ok (Some w)) = let r = range_in v at w in fits st r && judged (after st r) (at + (w + w + 2)) ≡ judged st at
 
-  pub turn : (r : RangePlace) → RangeRead v at r → Turn r
+  pub turn : (r : Result (Rattle.std.specs.Prelude.Option ℕ) Malformed) → RangeRead v at r → Turn r
   unfolding range_placed pass
-  turn range-place.End h = sym (judged-end range_at L.range_shrinks (pass st) (drop at v) (sym h.reads))
-  turn range-place.Malformed h = sym (judged_malformed range_at L.range_shrinks (pass st) (drop at v) (sym h.reads))
-  turn (range-place.Range w) h =
+  turn (Ok None) h = sym (judged-end range_at L.range_shrinks (pass st) (drop at v) (sym h.reads))
+  turn (Err m) h = sym (judged_malformed range_at L.range_shrinks (pass st) (drop at v) (sym h.reads))
+  turn (Ok (Some w)) h =
       let r : Range = range_in v at w in
       sym (judged-next range_at L.range_shrinks (pass st) (drop at v) (drop (at + (w + w + 2)) v) r (fits st r) (pass (after st r)) (λ es. refl) (sym h.reads))
 
 pub pass-starts : (rs : Option (List Range)) → are_good (pass nothing) rs ≡ are_good good_ranges rs
 unfolding are_good
-pass-starts none = refl
-pass-starts (some rs) = sym (pass-is_rule rs)
+pass-starts None = refl
+pass-starts (Some rs) = sym (pass-is_rule rs)
 
 -- ---- a range behind those before it
 
-module _ (v : List ℕ) (at previous w : ℕ) where
-  abbrev here : Range
-  here = range_in v at w
+module _ (st : Seen) (q : Option RangeBytes) (h : Preceded st.previous q) (r : Range) where
+  pub fit_turned : ltb r.end r.start ≡ true → false ≡ fits st r
+  unfolding fits good_range
+  fit_turned e = rw e
 
-  follow : (o : Option Range) → Preceded v o previous at → previous < at → follows o here ≡ before (range_in v previous (width_of (get_or v previous 0))) here
-  follow none h l = absurd (let z : ⊥ = omega arith in z)
-  follow (some p) h l = unfold follows in ap (λ (q : Range). before q here) h.1
+  first_of_all : (o : Option Range) → Preceded o q → q ≡ None → o ≡ None
+  first_of_all None k e = refl
+  first_of_all (Some p) k e = absurd (rw e at k)
 
-  first_of_all : (o : Option Range) → Preceded v o previous at → at ≤ previous → o ≡ none
-  first_of_all none h l = refl
-  first_of_all (some p) h l = absurd (let m = h.0 in let z : ⊥ = omega arith in z)
+  follow : (b : RangeBytes) (o : Option Range) → Preceded o q → q ≡ Some b → follows o r ≡ before (range_lent b) r
+  unfolding follows
+  follow b None k e = absurd (rw e at k)
+  follow b (Some p) k e = ap (λ (x : Range). before x r) (rw e at k).0
 
-  abbrev turned : Bool
-  turned = ltb (num (take w (drop (at + 1 + w) v))) (num (take w (drop (at + 1) v)))
+  module _ (e : ltb r.end r.start ≡ false) where
+    pub fit_first : q ≡ None → true ≡ fits st r
+    unfolding fits follows same_of all_of good_range
+    fit_first l = rw (e, first_of_all st.previous h l) (sym (or-true (eqb r.protocol 0)))
 
-  module _ (st : Seen) where
-    pub fit_turned : turned ≡ true → false ≡ fits st here
-    unfolding fits good_range range_in
-    fit_turned e = rw e
+    module _ (b : RangeBytes) (is_b : q ≡ Some b) where
+      pub fit_unordered : before (range_lent b) r ≡ false → false ≡ fits st r
+      unfolding fits good_range
+      fit_unordered f = rw (e, follow b st.previous h is_b, f)
 
-    pub fit_first : Preceded v st.previous previous at → turned ≡ false → at ≤ previous → true ≡ fits st here
-    unfolding fits follows same_of all_of good_range range_in
-    fit_first h e l = rw (e, first_of_all st.previous h l) (sym (or-true (eqb here.protocol 0)))
+      pub fit_zero : before (range_lent b) r ≡ true → r.protocol ≡ 0 → true ≡ fits st r
+      unfolding fits good_range
+      fit_zero f z = rw (e, follow b st.previous h is_b, f, eq-eqb r.protocol 0 z)
 
-    module _ (h : Preceded v st.previous previous at) (e : turned ≡ false) (l : previous < at) (b : Bool) (is_b : b ≡ before (range_in v previous (width_of (get_or v previous 0))) here) where
-      pub fit_unordered : b ≡ false → false ≡ fits st here
-      unfolding fits good_range range_in
-      fit_unordered f = rw (e, follow st.previous h l, ← is_b, f)
-
-      pub fit_zero : b ≡ true → get_or v (at + 1 + w + w) 0 ≡ 0 → true ≡ fits st here
-      unfolding fits good_range range_in
-      fit_zero f z = rw (e, follow st.previous h l, ← is_b, f, eq-eqb (get_or v (at + 1 + w + w) 0) 0 z)
-
-      pub fit_other : b ≡ true → (get_or v (at + 1 + w + w) 0 ≡ 0 → ⊥) → all_of (clear_from here) (same_of st.previous st.same here) ≡ fits st here
-      unfolding fits good_range range_in
-      fit_other f z = rw (e, follow st.previous h l, ← is_b, f, ne_eqb (get_or v (at + 1 + w + w) 0) 0 z)
+      pub fit_other : before (range_lent b) r ≡ true → (r.protocol ≡ 0 → ⊥) → all_of (clear_from r) (same_of st.previous st.same r) ≡ fits st r
+      unfolding fits good_range
+      fit_other f z = rw (e, follow b st.previous h is_b, f, ne_eqb r.protocol 0 z)
 
 -- what is known of those of the last version
 abbrev pub Ranked : List ℕ → Option Range → List Range → ℕ → Type 0
-Ranked v none same from = Unit {0}
-Ranked v (some p) same from = Ranks v (width_of p.version) from (length same) p
+Ranked v None same from = Unit {0}
+Ranked v (Some p) same from = Ranks v (width_of p.version) from (length same) p
 
 fits_good : (st : Seen) (r : Range) → fits st r ≡ true → (good_range r ≡ true) × (follows st.previous r ≡ true)
 unfolding fits
@@ -123,52 +140,57 @@ fits_good st r e =
 
 -- where the ranges of the last version start
 abbrev pub Begun : List ℕ → Option Range → List Range → ℕ → ℕ → Type 0
-Begun v none same from at = from ≡ at
-Begun v (some p) same from at = Stands v (width_of p.version) from same at
+Begun v None same from at = from ≡ at
+Begun v (Some p) same from at = Stands v (width_of p.version) from same at
 
-module _ (v : List ℕ) (at previous w from start : ℕ) (is_w : w ≡ width_of (get_or v at 0)) (is_s : start ≡ cond (eqb (get_or v previous 0) (get_or v at 0)) from at) where
+module _ (v : List ℕ) (at w from start : ℕ) (q : Option RangeBytes) (is_w : w ≡ width_of (get_or v at 0)) (is_s : start ≡ started_at q (get_or v at 0) from at) where
   version_of : (i k : ℕ) → (range_in v i k).version ≡ get_or v i 0
   unfolding range_in
   version_of i k = refl
 
   -- the range before is of this version, or the ranges of this version start here
-  by_version : (G : List Range → Type 0) (p : Range) (same : List Range) → Preceded v (some p) previous at
-      → (start ≡ from → w ≡ width_of p.version → p.version ≡ (range_in v at w).version → G same) → (start ≡ at → G []) → G (same_of (some p) same (range_in v at w))
-  unfolding same_of
-  by_version G p same h f g = go (eqb (get_or v previous 0) (get_or v at 0)) refl
+  by_version : (G : List Range → Type 0) (p : Range) (same : List Range) → (x : Option RangeBytes) → Preceded (Some p) x → start ≡ started_at x (get_or v at 0) from at
+      → (start ≡ from → w ≡ width_of p.version → p.version ≡ (range_in v at w).version → G same) → (start ≡ at → G []) → G (same_of (Some p) same (range_in v at w))
+  unfolding same_of started_at
+  by_version G p same None h s f g = absurd h
+  by_version G p same (Some r) h s f g = go (eqb r.version (get_or v at 0)) refl
     where
-      is_p : p.version ≡ get_or v previous 0
-      is_p = ap (λ (q : Range). q.version) h.1 ∙ version_of previous (width_of (get_or v previous 0))
+      is_p : p.version ≡ r.version
+      is_p = ap (λ (x : Range). x.version) h.0 ∙ unfold range_lent in refl
 
-      go : (t : Bool) → eqb (get_or v previous 0) (get_or v at 0) ≡ t → G (cond (eqb p.version (range_in v at w).version) same [])
+      go : (t : Bool) → eqb r.version (get_or v at 0) ≡ t → G (cond (eqb p.version (range_in v at w).version) same [])
       go true d =
-          let q : p.version ≡ get_or v at 0 = is_p ∙ eqb-true (get_or v previous 0) (get_or v at 0) d in
-          rw (is_p, version_of at w, d) (f (is_s ∙ rw d) (is_w ∙ ap width_of (sym q)) (q ∙ sym (version_of at w)))
-      go false d = rw (is_p, version_of at w, d) (g (is_s ∙ rw d))
+          let u : p.version ≡ get_or v at 0 = is_p ∙ eqb-true r.version (get_or v at 0) d in
+          rw (is_p, version_of at w, d) (f (s ∙ rw d) (is_w ∙ ap width_of (sym u)) (u ∙ sym (version_of at w)))
+      go false d = rw (is_p, version_of at w, d) (g (s ∙ rw d))
 
-  pub started : (o : Option Range) (same : List Range) → Preceded v o previous at → Begun v o same from at → Stands v w start (same_of o same (range_in v at w)) at
+  pub started : (o : Option Range) (same : List Range) → Preceded o q → Begun v o same from at → Stands v w start (same_of o same (range_in v at w)) at
+  unfolding same_of started_at
+  started None same h b = none q h is_s
+    where
+      none : (x : Option RangeBytes) → Preceded None x → start ≡ started_at x (get_or v at 0) from at → start ≡ at
+      none None h s = s ∙ b
+      none (Some r) h s = absurd h
+  started (Some p) same h b = by_version (λ l. Stands v w start l at) p same q h is_s (λ s k q. rw (s, k) b) (λ s. s)
+
+  pub rising : (o : Option Range) (same : List Range) → Preceded o q → Ranked v o same from → Rising v w start (length (same_of o same (range_in v at w)))
   unfolding same_of
-  started none same h b = is_s ∙ rw (eq-eqb (get_or v previous 0) (get_or v at 0) (ap (λ (i : ℕ). get_or v i 0) h)) b
-  started (some p) same h b = by_version (λ l. Stands v w start l at) p same h (λ s k q. rw (s, k) b) (λ s. s)
+  rising None same h b = rising_none v w start
+  rising (Some p) same h b = by_version (λ l. Rising v w start (length l)) p same q h is_s (λ s k q. rw (s, k) b.rising) (λ s. rising_none v w start)
 
-  pub rising : (o : Option Range) (same : List Range) → Preceded v o previous at → Ranked v o same from → Rising v w start (length (same_of o same (range_in v at w)))
-  unfolding same_of
-  rising none same h b = rising_none v w start
-  rising (some p) same h b = by_version (λ l. Rising v w start (length l)) p same h (λ s k q. rw (s, k) b.rising) (λ s. rising_none v w start)
-
-  later : (o : Option Range) (same : List Range) → Preceded v o previous at → Ranked v o same from → follows o (range_in v at w) ≡ true
+  later : (o : Option Range) (same : List Range) → Preceded o q → Ranked v o same from → follows o (range_in v at w) ≡ true
       → (i : ℕ) → i < length (same_of o same (range_in v at w)) → Later (nth v w start i) (range_in v at w)
   unfolding same_of follows
-  later none same h b f i = λ l. absurd (let z : ⊥ = omega arith in z)
-  later (some p) same h b f i = by_version (λ l. i < length l → Later (nth v w start i) (range_in v at w)) p same h (λ s k q j z.
+  later None same h b f i = λ l. absurd (let z : ⊥ = omega arith in z)
+  later (Some p) same h b f i = by_version (λ l. i < length l → Later (nth v w start i) (range_in v at w)) p same q h is_s (λ s k q j z.
       let u = b.under i j in
       let y = before_zero p (range_in v at w) f q z in
       let n : nth v w start i ≡ nth v (width_of p.version) from i = rw (s, ← k) in
       rw n ((u y.0).0, omega (arith, (u y.0).1, y.1)))
       (λ s j. absurd (let z : ⊥ = omega arith in z))
 
-  pub ranked : (st : Seen) → Preceded v st.previous previous at → Ranked v st.previous st.same from → Stands v w start (same_of st.previous st.same (range_in v at w)) at → fits st (range_in v at w) ≡ true
-      → Ranked v (some (range_in v at w)) (same_of st.previous st.same (range_in v at w) ++ (range_in v at w ∷ [])) start
+  pub ranked : (st : Seen) → Preceded st.previous q → Ranked v st.previous st.same from → Stands v w start (same_of st.previous st.same (range_in v at w)) at → fits st (range_in v at w) ≡ true
+      → Ranked v (Some (range_in v at w)) (same_of st.previous st.same (range_in v at w) ++ (range_in v at w ∷ [])) start
   ranked st h b d f =
       let l : List Range = same_of st.previous st.same (range_in v at w) in
       let g = fits_good st (range_in v at w) f in
@@ -176,13 +198,19 @@ module _ (v : List ℕ) (at previous w from start : ℕ) (is_w : w ≡ width_of 
       rw (k, length-append l (range_in v at w ∷ []))
       (ranks_more v w start at (length l) (stands-length v w start at l d) (rising st.previous st.same h b) (is_good (range_in v at w) g.0) (later st.previous st.same h b g.1))
 
-  pub continued : (o : Option Range) (same : List Range) → Stands v w start (same_of o same (range_in v at w)) at → Begun v (some (range_in v at w)) (same_of o same (range_in v at w) ++ (range_in v at w ∷ [])) start (at + (w + w + 2))
+  pub continued : (o : Option Range) (same : List Range) → Stands v w start (same_of o same (range_in v at w)) at → Begun v (Some (range_in v at w)) (same_of o same (range_in v at w) ++ (range_in v at w ∷ [])) start (at + (w + w + 2))
   continued o same h =
       let k : width_of (range_in v at w).version ≡ w = ap width_of (version_of at w) ∙ sym is_w in
       rw k (stands-more v w start at (same_of o same (range_in v at w)) h)
 
-  pub precedes : Preceded v (some (range_in v at w)) at (at + (w + w + 2))
-  precedes = (omega arith, ap (range_in v at) is_w)
+  version_lent : (r : RangeBytes) → r.version ≡ (range_lent r).version
+  unfolding range_lent
+  version_lent r = refl
+
+  pub precedes : (r : RangeBytes) → range_lent r ≡ range_in v at w → Wide w r → Preceded (Some (range_in v at w)) (Some r)
+  precedes r e l =
+      let k : width_of r.version ≡ w = ap width_of (version_lent r ∙ ap (λ (x : Range). x.version) e ∙ version_of at w) ∙ sym is_w in
+      (sym e, rw k l)
 
 -- ---- the types
 
@@ -200,12 +228,3 @@ module _ (v : List ℕ) where
       go (next e rest) d =
           judged-next entry_at L.entry_shrinks (all_of asks) v rest e (asks e) (all_of asks) (λ es. unfold all_of in refl) d
           ∙ sym (judged-next entry_at L.entry_shrinks good_requests v rest e (asks e) (all_of asks) (λ es. unfold good_requests all_of in refl) d)
-
--- ---- the search's test
-
-module _ (v : List ℕ) (at s w : ℕ) where
-  pub low_other : 0 < get_or v (s + 1 + w + w) 0 → false ≡ eqb (get_or v (s + 1 + w + w) 0) 0 && ltb (num (take w (drop (s + 1 + w) v))) (num (take w (drop (at + 1) v)))
-  low_other h = rw (ne_eqb (get_or v (s + 1 + w + w) 0) 0 (λ e. omega arith))
-
-  pub low_zero : get_or v (s + 1 + w + w) 0 ≤ 0 → ltb (num (take w (drop (s + 1 + w) v))) (num (take w (drop (at + 1) v))) ≡ eqb (get_or v (s + 1 + w + w) 0) 0 && ltb (num (take w (drop (s + 1 + w) v))) (num (take w (drop (at + 1) v)))
-  low_zero h = rw (eq-eqb (get_or v (s + 1 + w + w) 0) 0 (omega arith))

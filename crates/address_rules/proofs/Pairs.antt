@@ -1,5 +1,5 @@
 -- One pass checks the rule over every two ranges. Assumes nothing.
-use Rattle.walks.proofs.Words.{◌≡◌, refl, sym, ap, ◌∙◌, Bool, true, false, ◌&&◌, ◌||◌, and-true, and-false, and_assoc, or-true, Option, none, some, ℕ, zero, suc, ◌≤◌, ◌<◌, arith, List, [], ◌∷◌, ◌++◌, append_assoc, ltb, eqb, lt-ltb, eq-eqb, ne_eqb, eqb-true, eqb-false}
+use Rattle.walks.proofs.Words.{◌≡◌, refl, sym, ap, ◌∙◌, Bool, true, false, ◌&&◌, ◌||◌, and-true, and-false, and_assoc, or-true, Option, None, Some, ℕ, zero, suc, ◌≤◌, ◌<◌, arith, List, [], ◌∷◌, ◌++◌, append_assoc, ltb, eqb, lt-ltb, eq-eqb, ne_eqb, eqb-true, eqb-false}
 use Rattle.address_rules.proofs.Terms.{Range, good_range, before, in_order, disjoint, apart, all_apart, all_of, good_ranges, follows, same_of, clear_from, fits, after, pass, Each, PassIsRule}
 use Rattle.address_rules.proofs.Order.{Order, newer, other, above, order}
 
@@ -89,13 +89,13 @@ module _ (r : Range) where
 
 -- what is known of the ranges seen: those of older versions, and those of the version of the one before
 abbrev Known : Option Range → List Range → List Range → Type 0
-Known none old same = (old ≡ []) × (same ≡ [])
-Known (some p) old same = Each (Older p) old × Each (Beside p) same
+Known None old same = (old ≡ []) × (same ≡ [])
+Known (Some p) old same = Each (Older p) old × Each (Beside p) same
 
 record Turn (previous : Option Range) (old same : List Range) (r : Range) : Type 0 where
   older : List Range
   joins : older ++ (same_of previous same r ++ (r ∷ [])) ≡ old ++ same ++ (r ∷ [])
-  knows : Known (some r) older (same_of previous same r ++ (r ∷ []))
+  knows : Known (Some r) older (same_of previous same r ++ (r ∷ []))
   tests : all_of (with_r r) (old ++ same) ≡ eqb r.protocol 0 || all_of (clear_from r) (same_of previous same r)
 
 itself : (r : Range) → Each (Beside r) (r ∷ [])
@@ -103,16 +103,16 @@ itself r = ((refl, omega arith), tt)
 
 turn : (previous : Option Range) (old same : List Range) (r : Range) → Known previous old same → follows previous r ≡ true → Turn previous old same r
 unfolding same_of follows all_of
-turn none old same r k e =
+turn None old same r k e =
     record {
       older = [];
       joins = rw (k.0, k.1);
       knows = (tt, itself r);
       tests = rw (k.0, k.1) (sym (or-true (eqb r.protocol 0)));
     }
-turn (some p) old same r k e = go (order p r e)
+turn (Some p) old same r k e = go (order p r e)
   where
-    beside : p.version ≡ r.version → p.protocol ≤ r.protocol → Turn (some p) old same r
+    beside : p.version ≡ r.version → p.protocol ≤ r.protocol → Turn (Some p) old same r
     beside v q =
         let n : eqb p.version r.version ≡ true = eq-eqb p.version r.version v in
         let o : Each (Older r) old = each_map (Older p) (Older r) (λ s b. omega arith) old k.0 in
@@ -124,7 +124,7 @@ turn (some p) old same r k e = go (order p r e)
           tests = rw n (all_append (with_r r) old same ∙ rw (older_all r old o) (beside-all r same b));
         }
 
-    go : Order p r → Turn (some p) old same r
+    go : Order p r → Turn (Some p) old same r
     go (newer h) =
         let n : eqb p.version r.version ≡ false = ne_eqb p.version r.version (λ e. omega arith) in
         let o : Each (Older r) (old ++ same) = each_append (Older r) (Older r) old same (each_map (Older p) (Older r) (λ s b. omega arith) old k.0) (each_map (Beside p) (Older r) (λ s b. omega (arith, b.0)) same k.1) in
@@ -141,14 +141,14 @@ turn (some p) old same r k e = go (order p r e)
 
 order_from : Option Range → List Range → Bool
 order_from p [] = true
-order_from p (r ∷ rs) = follows p r && order_from (some r) rs
+order_from p (r ∷ rs) = follows p r && order_from (Some r) rs
 
-order_some : (p : Range) (rs : List Range) → in_order (p ∷ rs) ≡ order_from (some p) rs
+order_some : (p : Range) (rs : List Range) → in_order (p ∷ rs) ≡ order_from (Some p) rs
 unfolding in_order order_from follows
 order_some p [] = refl
 order_some p (r ∷ rs) = ap (λ (b : Bool). before p r && b) (order_some r rs)
 
-order_none : (rs : List Range) → in_order rs ≡ order_from none rs
+order_none : (rs : List Range) → in_order rs ≡ order_from None rs
 unfolding in_order order_from follows
 order_none [] = refl
 order_none (r ∷ rs) = order_some r rs
@@ -193,23 +193,23 @@ Rule previous old same rs =
     pass (record { previous = previous; same = same }) rs ≡ all_of good_range rs && (order_from previous rs && (cross (old ++ same) rs && all_apart rs))
 
 rule_turn : (r : Range) (rs : List Range) (previous : Option Range) (old same : List Range) → Known previous old same
-    → ((older : List Range) → Known (some r) older (same_of previous same r ++ (r ∷ [])) → Rule (some r) older (same_of previous same r ++ (r ∷ [])) rs)
+    → ((older : List Range) → Known (Some r) older (same_of previous same r ++ (r ∷ [])) → Rule (Some r) older (same_of previous same r ++ (r ∷ [])) rs)
     → Rule previous old same (r ∷ rs)
 unfolding pass fits after all_of all_apart order_from
 rule_turn r rs previous old same k again = go (follows previous r) refl
   where
     go : (t : Bool) → follows previous r ≡ t → Rule previous old same (r ∷ rs)
-    go false e = rw e (none_of (good_range r) (all_of good_range rs) (pass (record { previous = some r; same = same_of previous same r ++ (r ∷ []) }) rs))
+    go false e = rw e (none_of (good_range r) (all_of good_range rs) (pass (record { previous = Some r; same = same_of previous same r ++ (r ∷ []) }) rs))
     go true e =
         let m = turn previous old same r k e in
         let c : cross (m.older ++ (same_of previous same r ++ (r ∷ []))) rs ≡ cross (old ++ same) rs && all_of (apart r) rs = rw m.joins (cross_more (old ++ same) r rs) in
         rw (e, again m.older m.knows, c, cross_cons (old ++ same) r rs, m.tests)
-        (shuffle (good_range r) (eqb r.protocol 0 || all_of (clear_from r) (same_of previous same r)) (all_of good_range rs) (order_from (some r) rs) (cross (old ++ same) rs) (all_of (apart r) rs) (all_apart rs))
+        (shuffle (good_range r) (eqb r.protocol 0 || all_of (clear_from r) (same_of previous same r)) (all_of good_range rs) (order_from (Some r) rs) (cross (old ++ same) rs) (all_of (apart r) rs) (all_apart rs))
 
 rule : (rs : List Range) (previous : Option Range) (old same : List Range) → Known previous old same → Rule previous old same rs
 rule [] previous old same k = unfold pass all_of order_from all_apart in rw (← (cross_nil (old ++ same)))
-rule (r ∷ rs) previous old same k = rule_turn r rs previous old same k (λ older m. rule rs (some r) older (same_of previous same r ++ (r ∷ [])) m)
+rule (r ∷ rs) previous old same k = rule_turn r rs previous old same k (λ older m. rule rs (Some r) older (same_of previous same r ++ (r ∷ [])) m)
 
 pub pass-is_rule : PassIsRule
 unfolding good_ranges all_apart cross all_of
-pass-is_rule rs = rw (order_none rs) (sym (rule rs none [] [] (refl, refl)))
+pass-is_rule rs = rw (order_none rs) (sym (rule rs None [] [] (refl, refl)))

@@ -1,9 +1,11 @@
 -- Addresses compared byte by byte. Assumes nothing.
-use Rattle.walks.proofs.Words.{◌≡◌, refl, sym, ◌∙◌, Bool, true, false, ℕ, suc, ◌+◌, ◌*◌, ◌^◌, ◌-◌, ◌≤◌, ◌<◌, mul-le-mul_right, arith, List, [], ◌∷◌, length, get_or, take, drop, ltb, lt-ltb, le-ltb, ltb-true, ltb-false}
-use Rattle.address_rules.proofs.Terms.{Bytes, num, num_lt, bytes_take, bytes_drop, left, left-all, left_none, left_cons, left-length, num_cons}
-
-left-bytes : (v : List ℕ) (at w i : ℕ) → Bytes v → Bytes (left v at w i)
-left-bytes v at w i b = bytes_take (w - i) (drop (at + i) v) (bytes_drop (at + i) v b)
+use Rattle.walks.proofs.Words.{◌≡◌, refl, sym, ◌∙◌, Bool, true, false, cond, ℕ, suc, ◌+◌, ◌*◌, ◌^◌, ◌≤◌, ◌<◌, mul-le-mul_right, arith, List, [], ◌∷◌, length, ltb, eqb, lt-ltb, le-ltb, ltb-true, ltb-false, eqb-true, eqb-false}
+use Rattle.std.specs.Prelude.{Some}
+use Rattle.std.specs.Ordering.{is_lt, is_some_and, nat_cmp}
+use Rattle.std.specs.Cmp.Lexicographic.{slice_partial_cmp}
+use Rattle.std.proofs.lemmas.Cmp.{same_from_slice_cmp_tested}
+use Rattle.std.proofs.lemmas.Bool.Decides.{nat_tests}
+use Rattle.address_rules.proofs.Terms.{Bytes, num, num_lt, num_cons}
 
 num-first-less : (x y : ℕ) (s t : List ℕ) → length s ≡ length t → Bytes s → x < y → num (x ∷ s) < num (y ∷ t)
 num-first-less x y s t l bs h =
@@ -22,32 +24,37 @@ num-first_same x s t l = go (ltb (num s) (num t)) refl
         let h = ltb-false (num s) (num t) e in
         le-ltb (num (x ∷ s)) (num (x ∷ t)) (rw (num_cons x s, num_cons x t, ← l) (omega arith)) ∙ sym e
 
-module _ (v : List ℕ) (b : Bytes v) (p q w : ℕ) (hp : p + w ≤ length v) (hq : q + w ≤ length v) where
-  abbrev below : ℕ → Bool
-  below i = ltb (num (left v p w i)) (num (left v q w i))
+-- ---- the order of lists, which is that of the numbers if they are equally long
 
-  alike : (i : ℕ) → i ≤ w → length (left v p w i) ≡ length (left v q w i)
-  alike i l = left-length v p w i hp l ∙ sym (left-length v q w i hq l)
+lex : List ℕ → List ℕ → Bool
+lex [] [] = false
+lex [] (y ∷ ys) = true
+lex (x ∷ xs) [] = false
+lex (x ∷ xs) (y ∷ ys) = cond (ltb x y) true (cond (eqb x y) (lex xs ys) false)
 
-  pub below_less : (i : ℕ) → i < w → get_or v (p + i) 0 < get_or v (q + i) 0 → below i ≡ true
-  below_less i l h =
-      rw (left_cons v p w i hp l, left_cons v q w i hq l)
-      (lt-ltb _ _ (num-first-less (get_or v (p + i) 0) (get_or v (q + i) 0) (left v p w (i + 1)) (left v q w (i + 1)) (alike (i + 1) (omega arith)) (left-bytes v p w (i + 1) b) h))
+is_lex : (xs ys : List ℕ) (r : Bool) → r ≡ is_some_and is_lt (slice_partial_cmp (λ x y. Some (nat_cmp x y)) xs ys) → r ≡ lex xs ys
+unfolding lex
+is_lex = same_from_slice_cmp_tested nat_cmp is_lt lex refl (λ _ _. refl) (λ _ _. refl) (λ x y xs ys o h. grind (arith, nat_tests))
 
-  pub below_more : (i : ℕ) → i < w → get_or v (q + i) 0 < get_or v (p + i) 0 → below i ≡ false
-  below_more i l h =
-      let m = num-first-less (get_or v (q + i) 0) (get_or v (p + i) 0) (left v q w (i + 1)) (left v p w (i + 1)) (sym (alike (i + 1) (omega arith))) (left-bytes v q w (i + 1) b) h in
-      rw (left_cons v p w i hp l, left_cons v q w i hq l)
-      (le-ltb (num (get_or v (p + i) 0 ∷ left v p w (i + 1))) (num (get_or v (q + i) 0 ∷ left v q w (i + 1))) (omega arith))
+lex_num : (s t : List ℕ) → length s ≡ length t → Bytes s → Bytes t → lex s t ≡ ltb (num s) (num t)
+unfolding lex
+lex_num [] [] l p q = sym (le-ltb (num []) (num []) (omega arith))
+lex_num [] (y ∷ t) l p q = absurd (omega arith)
+lex_num (x ∷ s) [] l p q = absurd (omega arith)
+lex_num (x ∷ s) (y ∷ t) l p q = go (lex_num s t (omega arith) p.1 q.1) (ltb x y) (eqb x y) refl refl
+  where
+    k : length s ≡ length t
+    k = omega arith
 
-  pub below_same : (i : ℕ) → i < w → get_or v (p + i) 0 ≡ get_or v (q + i) 0 → below i ≡ below (i + 1)
-  below_same i l h =
-      rw (left_cons v p w i hp l, left_cons v q w i hq l, h)
-      (num-first_same (get_or v (q + i) 0) (left v p w (i + 1)) (left v q w (i + 1)) (alike (i + 1) (omega arith)))
+    go : lex s t ≡ ltb (num s) (num t) → (a b : Bool) → ltb x y ≡ a → eqb x y ≡ b → cond a true (cond b (lex s t) false) ≡ ltb (num (x ∷ s)) (num (y ∷ t))
+    go again true b e f = sym (lt-ltb _ _ (num-first-less x y s t k p.1 (ltb-true x y e)))
+    go again false true e f = rw (← (eqb-true x y f)) (again ∙ sym (num-first_same x s t k))
+    go again false false e f =
+        let n : x ≡ y → ⊥ = eqb-false x y f in
+        let m : y ≤ x = ltb-false x y e in
+        let h : y < x = omega arith in
+        let g = num-first-less y x t s (sym k) q.1 h in
+        sym (le-ltb (num (x ∷ s)) (num (y ∷ t)) (omega arith))
 
-module _ (v : List ℕ) (p q w : ℕ) (hp : p + w ≤ length v) (hq : q + w ≤ length v) where
-  pub below_end : (i : ℕ) → w ≤ i → ltb (num (left v p w i)) (num (left v q w i)) ≡ false
-  below_end i h = rw (left_none v p w i h, left_none v q w i h) (le-ltb (num []) (num []) (omega arith))
-
-  pub below_start : ltb (num (left v p w 0)) (num (left v q w 0)) ≡ ltb (num (take w (drop p v))) (num (take w (drop q v)))
-  below_start = rw (left-all v p w, left-all v q w)
+pub below_is : (s t : List ℕ) → length s ≡ length t → Bytes s → Bytes t → (r : Bool) → r ≡ is_some_and is_lt (slice_partial_cmp (λ x y. Some (nat_cmp x y)) s t) → r ≡ ltb (num s) (num t)
+below_is s t l p q r e = is_lex s t r e ∙ lex_num s t l p q

@@ -1,7 +1,7 @@
 -- The search among the ranges of one version that stand before a range: they are clear from it exactly if the first one that is not wholly below it,
 -- or is for another protocol, is. Assumes nothing.
-use Rattle.walks.proofs.Words.{◌≡◌, refl, sym, ap, ◌∙◌, Bool, true, false, ◌&&◌, and-false, or-true, ℕ, zero, suc, ◌+◌, ◌-◌, ◌*◌, ◌/◌, ◌≤◌, ◌<◌, suc-mul, le-div_iff_mul-le, mul-div_cancel, div-mul-le_self, mul-le-mul_left, arith, List, [], ◌∷◌, length, get_or, take, drop, ltb, eqb, lt-ltb, le-ltb, ltb-true, eq-eqb, eqb-true}
-use Rattle.address_rules.proofs.Terms.{num, split, both, Range, all_of, disjoint, clear_from, range_in, Stands, nth, Later, Rising}
+use Rattle.walks.proofs.Words.{◌≡◌, refl, sym, ap, ◌∙◌, Bool, true, false, ◌&&◌, and-false, or-true, ℕ, zero, suc, ◌+◌, ◌-◌, ◌*◌, ◌/◌, ◌≤◌, ◌<◌, suc-mul, le-div_iff_mul-le, mul-div_cancel, div-mul-le_self, mul-le-mul_left, arith, List, [], ◌∷◌, length, ltb, eqb, lt-ltb, le-ltb, ltb-true, eq-eqb, eqb-true}
+use Rattle.address_rules.proofs.Terms.{split, both, Range, all_of, disjoint, clear_from, range_in, Stands, nth, Later, Rising}
 
 -- ---- the list of the ranges, by their numbers
 
@@ -112,19 +112,17 @@ place_of from at k i p h l =
 
 -- what the code's test says
 module _ (v : List ℕ) (w from at i : ℕ) where
-  abbrev test : Bool
-  test = eqb (get_or v (from + i * (w + w + 2) + 1 + w + w) 0) 0 && ltb (num (take w (drop (from + i * (w + w + 2) + 1 + w) v))) (num (take w (drop (at + 1) v)))
+  abbrev pub test : Bool
+  test = eqb (nth v w from i).protocol 0 && ltb (nth v w from i).end (range_in v at w).start
 
   pub is_low : test ≡ true → Low v w from at i
-  unfolding range_in
   is_low e =
-      let b = both (eqb (get_or v (from + i * (w + w + 2) + 1 + w + w) 0) 0) (ltb (num (take w (drop (from + i * (w + w + 2) + 1 + w) v))) (num (take w (drop (at + 1) v)))) e in
-      (eqb-true (get_or v (from + i * (w + w + 2) + 1 + w + w) 0) 0 b.0, ltb-true (num (take w (drop (from + i * (w + w + 2) + 1 + w) v))) (num (take w (drop (at + 1) v))) b.1)
+      let b = both (eqb (nth v w from i).protocol 0) (ltb (nth v w from i).end (range_in v at w).start) e in
+      (eqb-true (nth v w from i).protocol 0 b.0, ltb-true (nth v w from i).end (range_in v at w).start b.1)
 
   pub not_low : test ≡ false → Low v w from at i → ⊥
-  unfolding range_in
   not_low e k =
-      let t : test ≡ true = rw (eq-eqb (get_or v (from + i * (w + w + 2) + 1 + w + w) 0) 0 k.0, lt-ltb (num (take w (drop (from + i * (w + w + 2) + 1 + w) v))) (num (take w (drop (at + 1) v))) k.1) in
+      let t : test ≡ true = rw (eq-eqb (nth v w from i).protocol 0 k.0, lt-ltb (nth v w from i).end (range_in v at w).start k.1) in
       let n : ◌≡◌ {A = ℕ} 0 1 = cc in omega arith
 
 -- ---- ranges go on rising

@@ -1,14 +1,13 @@
 // Values of RFC 9484's address capsules (section 4.7), checked: the order of ranges, and a value by its type.
 #![tactic(auto)]
 
-ghost use Rattle.std.specs.Prelude.{◌≡◌, cond, ◌&&◌, List, ◌+◌, ◌≤◌, ◌<◌, length, take, drop, get_or, ltb, eqb};
-ghost use Rattle.wire.specs.Bytes.{num};
-ghost use Rattle.addresses.specs.Addresses.{width_of, before, Range, all_of, are_good, good_ranges, entries, range_at, well_formed};
+ghost use Rattle.std.specs.Prelude.{◌≡◌, ◌&&◌, List, ◌+◌, ◌≤◌, ◌<◌, length, get_or, ltb, eqb};
+ghost use Rattle.addresses.specs.Addresses.{width_of, Range, all_of, are_good, good_ranges, entries, range_at, well_formed};
 ghost use Rattle.addresses.specs.Places.{range_in};
 ghost use Rattle.address_rules.specs.Pass.{Seen, same_of, clear_from, fits};
-ghost use Rattle.address_rules.specs.Places.{Preceded, Stands, Rising};
+ghost use Rattle.address_rules.specs.Places.{Lent, started_at, Preceded, Stands, Rising};
 
-use addresses::{RangePlace, good_entries, range_at};
+use addresses::{Malformed, good_entries, range_at};
 
 // A value of an address capsule is well formed: of type 1, 2 or 3, at most 1,024 bytes long, and as RFC 9484 has it.
 #[tactic(auto, using(crate::proofs::Judging::request_none, crate::proofs::Judging::request_some), unfolding(addresses::specs::Addresses::well_formed, addresses::specs::Addresses::good_value, addresses::specs::Addresses::longest_address_value))]
@@ -33,117 +32,160 @@ pub fn well_formed(ctype: u64, value: &[u8]) -> bool
     false
 }
 
-// The ranges of a ROUTE_ADVERTISEMENT keep the rules.
+// The ranges of a ROUTE_ADVERTISEMENT keep the rules. The loop goes on where each range ends, which an iterator would
+// have to keep too.
 fn good_ranges(value: &[u8]) -> bool
     ensures { result ≡ are_good good_ranges (entries range_at value.now) }
 {
     let mut from = 0;
-    let mut previous = 0;
+    let mut previous = None;
     let mut at = 0;
     loop {
         match range_at(value, at) {
-            RangePlace::End => return true,
-            RangePlace::Malformed => return false,
-            RangePlace::Range { width } => {
-                let start = start_of(value, from, previous, at);
+            Ok(None) => return true,
+            Err(Malformed) => return false,
+            Ok(Some(width)) => {
+                let range = lent(value, at, width);
+                let start = start_of(previous, range.version, from, at);
                 if !is_fit(value, start, previous, at, width) {
                     return false;
                 }
                 from = start;
-                previous = at;
+                previous = Some(range);
                 at = at + (width + width + 2);
             }
         }
     }
 }
 
-// Where the ranges of the version of the one at `at` start, if those of the version before start at `from`.
-fn start_of(value: &[u8], from: usize, previous: usize, at: usize) -> usize
-    requires { (previous ≤ at) × (at < length value.now) }
-    ensures { result ≡ cond (eqb (get_or value.now previous 0) (get_or value.now at 0)) from at }
+// A range of a value, its addresses as bytes.
+#[derive(Clone, Copy)]
+struct RangeBytes<'a> {
+    version: u8,
+    start: &'a [u8],
+    end: &'a [u8],
+    protocol: u8,
+}
+
+impl RangeBytes<'_> {
+    ghost use Rattle.std.specs.Prelude.{◌≡◌, ◌&&◌, ℕ, ltb, eqb};
+    ghost use Rattle.addresses.specs.Addresses.{width_of, before};
+    ghost use Rattle.address_rules.specs.Pass.{clear_from};
+    ghost use Rattle.address_rules.specs.Places.{range_lent, Wide};
+
+    // Of two ranges: the version does not fall, in one version the protocol does not, in one version and protocol the
+    // end is below the next start.
+    fn is_before(&self, next: &RangeBytes<'_>) -> bool
+        ensures { Wide (width_of self.now.version) self.now → Wide (width_of next.now.version) next.now → result ≡ before (range_lent self.now) (range_lent next.now) }
+    {
+        if self.version < next.version {
+            return true;
+        }
+        if next.version < self.version {
+            return false;
+        }
+        if self.protocol < next.protocol {
+            return true;
+        }
+        if next.protocol < self.protocol {
+            return false;
+        }
+        self.end < next.start
+    }
+
+    // Its end is below its start.
+    fn is_turned(&self) -> bool
+        ensures { (w : ℕ) → Wide w self.now → result ≡ ltb (range_lent self.now).end (range_lent self.now).start }
+    {
+        self.end < self.start
+    }
+
+    // It is for all protocols, and wholly below a range of its version.
+    fn is_low(&self, other: &RangeBytes<'_>) -> bool
+        ensures { (w : ℕ) → Wide w self.now → Wide w other.now → result ≡ eqb (range_lent self.now).protocol 0 && ltb (range_lent self.now).end (range_lent other.now).start }
+    {
+        self.protocol == 0 && self.end < other.start
+    }
+
+    // It does not overlap a range of its version, or that is for one protocol only.
+    fn is_clear_from(&self, other: &RangeBytes<'_>) -> bool
+        ensures { (w : ℕ) → Wide w self.now → Wide w other.now → result ≡ clear_from (range_lent self.now) (range_lent other.now) }
+    {
+        if other.protocol > 0 {
+            return true;
+        }
+        other.end < self.start || self.end < other.start
+    }
+}
+
+// The range at a place, whose addresses have `width` bytes. A place and a width, not a slice, here and below: the
+// search needs the range at any multiple of its size from the first on.
+fn lent(value: &[u8], at: usize, width: usize) -> RangeBytes<'_>
+    requires { at + (width + width + 2) ≤ length value.now }
+    ensures { Lent value.now at width result }
 {
-    if value[previous] == value[at] {
-        from
-    } else {
-        at
+    let end = at + 1 + width;
+    RangeBytes {
+        version: value[at],
+        start: &value[at + 1..end],
+        end: &value[end..end + width],
+        protocol: value[end + width],
+    }
+}
+
+// Where the ranges of a version start, if those of the version before start at `from`.
+fn start_of(previous: Option<RangeBytes<'_>>, version: u8, from: usize, at: usize) -> usize
+    ensures { result ≡ started_at previous.entry version from at }
+{
+    match previous {
+        None => from,
+        Some(range) => { if range.version == version { from } else { at } }
     }
 }
 
 // The range at `at` keeps the rules with those before it; those of its version start at `start`.
-#[tactic(auto, using(crate::proofs::Judging::fit_zero, crate::proofs::Judging::fit_other))]
-fn is_fit(value: &[u8], start: usize, previous: usize, at: usize, width: usize) -> bool
-    requires { (previous ≤ at) × (start ≤ at) × (at + (width + width + 2) ≤ length value.now) × (width ≡ width_of (get_or value.now at 0)) × (width ≤ 16) }
-    ensures { (st : Seen) → Preceded value.now st.previous previous at → Stands value.now width start (same_of st.previous st.same (range_in value.now at width)) at → Rising value.now width start (length (same_of st.previous st.same (range_in value.now at width))) → result ≡ fits st (range_in value.now at width) }
+fn is_fit(
+    value: &[u8],
+    start: usize,
+    previous: Option<RangeBytes<'_>>,
+    at: usize,
+    width: usize,
+) -> bool
+    requires { (start ≤ at) × (at + (width + width + 2) ≤ length value.now) }
+    ensures { (st : Seen) → Preceded st.previous previous.entry → width ≡ width_of (get_or value.now at 0) → Stands value.now width start (same_of st.previous st.same (range_in value.now at width)) at → Rising value.now width start (length (same_of st.previous st.same (range_in value.now at width))) → result ≡ fits st (range_in value.now at width) }
 {
-    if below(value, at + 1 + width, at + 1, width) {
+    let range = lent(value, at, width);
+    if range.is_turned() {
         return false;
     }
-    if previous < at {
-        if !is_before(value, previous, at, width) {
-            return false;
-        }
-        if value[at + 1 + width + width] == 0 {
-            return true;
-        }
-        return clear_from_all(value, at, start, width);
+    let Some(before) = previous else {
+        return true;
+    };
+    if !before.is_before(&range) {
+        return false;
     }
-    true
-}
-
-// The address at `a` is below the one at `b`.
-fn below(value: &[u8], a: usize, b: usize, width: usize) -> bool
-    requires { (a + width ≤ length value.now) × (b + width ≤ length value.now) }
-    ensures { result ≡ ltb (num (take width (drop a value.now))) (num (take width (drop b value.now))) }
-{
-    let mut i = 0;
-    while i < width {
-        let x = value[a + i];
-        let y = value[b + i];
-        if x < y {
-            return true;
-        }
-        if y < x {
-            return false;
-        }
-        i += 1;
-    }
-    false
-}
-
-// Of two ranges: the version does not fall, in one version the protocol does not, in one version and protocol the end is below the next start.
-fn is_before(value: &[u8], previous: usize, at: usize, width: usize) -> bool
-    requires { (previous < at) × (at + (width + width + 2) ≤ length value.now) × (width ≡ width_of (get_or value.now at 0)) × (width ≤ 16) }
-    ensures { result ≡ before (range_in value.now previous (width_of (get_or value.now previous 0))) (range_in value.now at width) }
-{
-    if value[previous] < value[at] {
+    let for_all = range.protocol == 0;
+    if for_all {
         return true;
     }
-    if value[at] < value[previous] {
-        return false;
-    }
-    let p = value[previous + 1 + width + width];
-    let q = value[at + 1 + width + width];
-    if p < q {
-        return true;
-    }
-    if q < p {
-        return false;
-    }
-    below(value, previous + 1 + width, at + 1, width)
+    clear_from_all(value, at, start, width)
 }
 
-// The range at `at` is clear from each of those that stand from `from` on: from the first that is not low, since they rise.
+// The range at `at` is clear from each of those that stand from `from` on: from the first that is not low, since they
+// rise. Searched by hand: `partition_point` is of slices, and how many bytes a range has is known at run time only.
 fn clear_from_all(value: &[u8], at: usize, from: usize, width: usize) -> bool
-    requires { (from ≤ at) × (at + (width + width + 2) ≤ length value.now) × (width ≤ 16) }
+    requires { (from ≤ at) × (at + (width + width + 2) ≤ length value.now) }
     ensures { (same : List Range) → Stands value.now width from same at → Rising value.now width from (length same) → result ≡ all_of (clear_from (range_in value.now at width)) same }
 {
+    let range = lent(value, at, width);
     let size = width + width + 2;
     let count = (at - from) / size;
     let mut low = 0;
     let mut high = count;
     while low < high {
         let middle = (low + high) / 2;
-        if is_low(value, at, from + middle * size, width) {
+        let other = lent(value, from + middle * size, width);
+        if other.is_low(&range) {
             low = middle + 1;
             continue;
         }
@@ -152,30 +194,6 @@ fn clear_from_all(value: &[u8], at: usize, from: usize, width: usize) -> bool
     if low == count {
         return true;
     }
-    clear_from(value, at, from + low * size, width)
-}
-
-// The range at `s` is for all protocols, and wholly below the one at `at`.
-fn is_low(value: &[u8], at: usize, s: usize, width: usize) -> bool
-    requires { (s < at) × (at + (width + width + 2) ≤ length value.now) × (width ≤ 16) }
-    ensures { result ≡ eqb (get_or value.now (s + 1 + width + width) 0) 0 && ltb (num (take width (drop (s + 1 + width) value.now))) (num (take width (drop (at + 1) value.now))) }
-{
-    if value[s + 1 + width + width] > 0 {
-        return false;
-    }
-    below(value, s + 1 + width, at + 1, width)
-}
-
-// The range at `at` does not overlap the one at `s`, or that is for one protocol only.
-fn clear_from(value: &[u8], at: usize, s: usize, width: usize) -> bool
-    requires { (s < at) × (at + (width + width + 2) ≤ length value.now) × (width ≤ 16) }
-    ensures { result ≡ clear_from (range_in value.now at width) (range_in value.now s width) }
-{
-    if value[s + 1 + width + width] > 0 {
-        return true;
-    }
-    if below(value, s + 1 + width, at + 1, width) {
-        return true;
-    }
-    below(value, at + 1 + width, s + 1, width)
+    let other = lent(value, from + low * size, width);
+    range.is_clear_from(&other)
 }

@@ -1,6 +1,7 @@
 -- The writers' answers, and what stands in the output. Assumes nothing.
+use Rattle.std.specs.Prelude.{Result, Ok, Err}
 use Rattle.walks.proofs.Words.{◌≡◌, refl, sym, ap, ◌∙◌, ◌↔◌, ℕ, zero, suc, ◌+◌, ◌*◌, ◌/◌, ◌^◌, ◌≤◌, arith, Bool, true, false, cond, ◌&&◌, and-false, not, List, [], ◌∷◌, ◌++◌, append_assoc, length, take, drop, get_or, length-drop, sets, sets-eq, length-sets, take_at, drop_at, drop-drop, length-take-le, leb, ltb, eqb, le-leb, leb-true, leb-false, lt-ltb, eq-eqb, not-false}
-use Rattle.address_writer.proofs.Terms.{Refusal, output_too_short, number_too_large, malformed_to_write, Written, Refused, Wrote, Bytes, num, Writing, writing, refuses, write_at, bytes_take, bytes_drop, num_lt, Opening, Address, AddressDelivered, parts, opted, kind_of, extent_by, extent_of, report_by, report_of, judged, reported, by_the_grammar, assign, request, is_address_type, longest_address_value, width_of, all_of, good_entry, good_requests, good_ranges, well_formed, entry_bytes, value_bytes, entry_size, entry_of, range_size, range_of, first_of, all_in, is_whole, entries_in, ranges_in, id_fits, capsule_of, write_value, write_addresses, write_routes, alone, Form, entry_fits, range_fits, addresses, ranges, all_known, is_writable, AddressCapsule, address_assign, address_request, route_advertisement, type_of, value_of, write_of, has_large_id, record_size, keeps_rules, Answered, RefusedExactly, ReadBackAs, DeliveredTo, Standing, WrittenStands, RefusedNothing, address-length, impossible, both}
+use Rattle.address_writer.proofs.Terms.{Refusal, output_too_short, number_too_large, malformed_to_write, Bytes, num, Writing, writing, refuses, write_at, bytes_take, bytes_drop, num_lt, Opening, Address, AddressDelivered, parts, opted, kind_of, extent_by, extent_of, report_by, report_of, judged, reported, by_the_grammar, assign, request, is_address_type, longest_address_value, width_of, all_of, good_entry, good_requests, good_ranges, well_formed, entry_bytes, value_bytes, entry_size, entry_of, range_size, range_of, first_of, all_in, is_whole, entries_in, ranges_in, id_fits, capsule_of, write_value, write_addresses, write_routes, alone, Form, entry_fits, range_fits, addresses, ranges, all_known, is_writable, AddressCapsule, address_assign, address_request, route_advertisement, type_of, value_of, write_of, has_large_id, record_size, keeps_rules, Answered, RefusedExactly, ReadBackAs, DeliveredTo, Standing, WrittenStands, RefusedNothing, address-length, impossible, both}
 use Rattle.address_writer.proofs.{Writing.formed_short, Writing.formed_largest, Capsules.one-capsule, ReadBack.reads_back, ReadBack.writable_exactly}
 
 -- ---- the entries of a row are such as reading gives
@@ -20,7 +21,7 @@ all_both p q (e ∷ es) g h = let a = both (p e) (all_of p es) g in let b = both
 
 address-fits : (s : List ℕ) → Bytes s → 32 ≤ length s → eqb (length (entry_of s).address) (width_of (entry_of s).version) ≡ true
 unfolding entry_of
-address-fits s b h = eq-eqb _ _ (address-length s 10 _ (omega arith))
+address-fits s b h = eq-eqb _ _ (address-length (drop 10 s) _ (omega (arith, length-drop 10 s)))
 
 range-fits : (s : List ℕ) → Bytes s → 34 ≤ length s → range_fits (range_of s) ≡ true
 unfolding range_fits range_of
@@ -30,7 +31,7 @@ range-fits s b h = rw (below 2 (omega arith), below 18 (omega arith))
     below from l =
         let w : ℕ = width_of (get_or s 0 0) in
         let t : List ℕ = take w (drop from s) in
-        lt-ltb (num t) (256 ^ w) (rw (address-length s from (get_or s 0 0) l) at (num_lt t (bytes_take w (drop from s) (bytes_drop from s b))))
+        lt-ltb (num t) (256 ^ w) (rw (address-length (drop from s) (get_or s 0 0) (omega (arith, length-drop from s))) at (num_lt t (bytes_take w (drop from s) (bytes_drop from s b))))
 
 entries_fit : (row : List ℕ) → Bytes row → all_of id_fits (entries_in row) ≡ true → all_of entry_fits (entries_in row) ≡ true
 unfolding entries_in all_in entry_fits
@@ -87,9 +88,9 @@ module _ (row out : List ℕ) (place : ℕ) where
 
 -- ---- which answer
 
-code : Written → ℕ
-code (Refused r) = r.0
-code (Wrote n) = 0
+code : Result ℕ Refusal → ℕ
+code (Err r) = r.0
+code (Ok n) = 0
 
 yes : {P Q : Type 0} → P → Q → P ↔ Q
 yes p q = (λ _. q, λ _. p)
@@ -154,8 +155,8 @@ module _ (bytes out : List ℕ) (place : ℕ) (h : place + length bytes ≤ leng
 
 -- the ways that a call goes
 data Way (large fine : Bool) (bytes out : List ℕ) (place : ℕ) (w : Writing) : Type 0 where
-  refused : (r : Refusal) → w ≡ writing (Refused r) out → Way large fine bytes out place w
-  wrote : large ≡ false → fine ≡ true → place + length bytes ≤ length out → w ≡ writing (Wrote (length bytes)) (sets out place bytes) → Way large fine bytes out place w
+  refused : (r : Refusal) → w ≡ writing (Err r) out → Way large fine bytes out place w
+  wrote : large ≡ false → fine ≡ true → place + length bytes ≤ length out → w ≡ writing (Ok (length bytes)) (sets out place bytes) → Way large fine bytes out place w
 
 way : (large fine room : Bool) (bytes out : List ℕ) (place : ℕ) → leb (place + length bytes) (length out) ≡ room → Way large fine bytes out place (Call large fine bytes out place)
 unfolding refuses write_at
@@ -249,8 +250,8 @@ written_stands k row out place n after b e = go (way_of k row out place)
     go (refused r d) = impossible (cc (ap (λ (w : Writing). w.answer) (sym d ∙ e)))
     go (wrote l f h d) =
         let c : List ℕ = capsule_of (type_of k) (value_of k row) in
-        let x : writing (Wrote (length c)) (sets out place c) ≡ writing (Wrote n) after = sym d ∙ e in
+        let x : writing (Ok (length c)) (sets out place c) ≡ writing (Ok n) after = sym d ∙ e in
         let is_after : sets out place c ≡ after = ap (λ (w : Writing). w.output) x in
-        let y : Wrote (length c) ≡ Wrote n = ap (λ (w : Writing). w.answer) x in
+        let y : Ok (length c) ≡ Ok n = ap (λ (w : Writing). w.answer) x in
         let is_n : length c ≡ n = cc in
         rw (← is_after, ← is_n) (stands k row out place b l f h)

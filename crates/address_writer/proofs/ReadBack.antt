@@ -1,5 +1,5 @@
 -- Entries written are read back. Assumes nothing.
-use Rattle.walks.proofs.Words.{◌≡◌, refl, ap, ◌∙◌, ℕ, ◌^◌, Bool, true, false, cond, ◌&&◌, none, some, List, [], ◌∷◌, ◌++◌, append_assoc, length, drop_at, leb, ltb, eqb, leb-true, ltb-true, eqb-true}
+use Rattle.walks.proofs.Words.{◌≡◌, refl, ap, ◌∙◌, ℕ, ◌^◌, Bool, true, false, cond, ◌&&◌, None, Some, List, [], ◌∷◌, ◌++◌, append_assoc, length, drop_at, leb, ltb, eqb, leb-true, ltb-true, eqb-true}
 use Rattle.address_writer.proofs.Terms.{largest, least_size, encode, read_back, length-encode, width_of, done, malformed, next, entries, all_of, are_good, Entry, entry_at, good_entry, good_requests, Range, range_at, good_ranges, good_value, well_formed, entry_bytes, range_bytes, value_bytes, Each, both, Shrinks, entry_shrinks, range_shrinks, known, value_read, entry_read, range-read, id_fits, Form, entry_fits, range_fits, addresses, ranges, all_known, ReadsBackAs, ReadsBack, is_writable, WritableExactly}
 
 module _ {A : Type 0} (f : Form A) where
@@ -15,7 +15,7 @@ module _ {A : Type 0} (f : Form A) where
   each_fits (e ∷ es) g = let b = both (f.fits e) (all_of f.fits es) g in (b.0, each_fits es b.1)
 
   module _ (r : Readable) where
-    read_as : (es : List A) → all_of f.fits es ≡ true → entries f.read (value_bytes f.bytes es) ≡ cond (all_known f es) (some es) none
+    read_as : (es : List A) → all_of f.fits es ≡ true → entries f.read (value_bytes f.bytes es) ≡ cond (all_known f es) (Some es) None
     unfolding all_known
     read_as es g = value_read f.read f.bytes (λ e. known (f.version e)) (λ e. f.fits e ≡ true) r.shrinks r.nothing r.first es (each_fits es g)
 
@@ -25,7 +25,7 @@ module _ {A : Type 0} (f : Form A) where
     good_as : (rule : List A → Bool) (es : List A) → all_of f.fits es ≡ true → are_good rule (entries f.read (value_bytes f.bytes es)) ≡ all_known f es && rule es
     good_as rule es g = ap (are_good rule) (read_as es g) ∙ go (all_known f es)
       where
-        go : (b : Bool) → are_good rule (cond b (some es) none) ≡ b && rule es
+        go : (b : Bool) → are_good rule (cond b (Some es) None) ≡ b && rule es
         go true = unfold are_good in refl
         go false = unfold are_good in refl
 

@@ -1,6 +1,8 @@
 -- A value written as a capsule. Assumes nothing.
-use Rattle.walks.proofs.Words.{◌≡◌, refl, ap, ◌∙◌, ℕ, ◌+◌, ◌%◌, ◌≤◌, ◌<◌, arith, Bool, true, false, List, [], ◌∷◌, ◌++◌, length, take, drop, length-append, set, length-set, sets, length-sets, sets-eq, take_at, take-length, leb, le-leb, lt-leb, leb-true, eq-eqb, ne_eqb}
-use Rattle.address_writer.proofs.Terms.{output_too_short, number_too_large, malformed_to_write, Refused, Wrote, largest, least_size, encode, Written, Writing, writing, refuses, write_at, write_varint, length-encode, copying, copy, copied, longest_address_value, all_of, well_formed, is_whole, entries_in, id_fits, capsule_of, write_value, write_addresses, write_routes, Put, Gathered, size_in, value_in, put_then, put_number}
+use Rattle.std.specs.Prelude.{Result, Ok, Err}
+use Rattle.refusals.specs.declared.Refusal.{Refusal}
+use Rattle.walks.proofs.Words.{◌≡◌, refl, sym, ap, ◌∙◌, ℕ, ◌+◌, ◌≤◌, ◌<◌, arith, Bool, true, false, List, [], ◌∷◌, ◌++◌, length, take, drop, length-append, set, length-set, sets, length-sets, sets-eq, take_at, take-length, leb, le-leb, lt-leb, leb-true, leb-false, length-take-le, cond, ◌&&◌, ◌⊎◌, ⊎_elim, inr}
+use Rattle.address_writer.proofs.Terms.{output_too_short, number_too_large, malformed_to_write, largest, least_size, encode, writing, refuses, write_at, write_varint, length-encode, copying, copy, copied, longest_address_value, all_of, well_formed, is_whole, entries_in, id_fits, capsule_of, write_value, write_addresses, write_routes, Put, Gathered, value_in, put_then, put_number}
 
 pub long_malformed : (t : ℕ) (v : List ℕ) → 1024 < length v → well_formed t v ≡ false
 unfolding well_formed longest_address_value
@@ -24,9 +26,13 @@ put_span v out at done after h c = record {
 }
 
 module _ (t : ℕ) (v out : List ℕ) (place : ℕ) where
-  pub malformed : well_formed t v ≡ false → writing (Refused malformed_to_write) out ≡ write_value true t v out place
+  pub malformed : (whole : Bool) → (whole ≡ false) ⊎ (well_formed t v ≡ false) → writing (Err malformed_to_write) out ≡ write_value whole t v out place
   unfolding write_value refuses
-  malformed e = rw e
+  malformed whole e = ⊎_elim (λ f. rw f) (λ f. go whole f) e
+    where
+      go : (w : Bool) → well_formed t v ≡ false → writing (Err malformed_to_write) out ≡ cond (w && well_formed t v) (write_at (capsule_of t v) out place) (refuses malformed_to_write out)
+      go true f = rw f
+      go false f = refl
 
   written : well_formed t v ≡ true → write_at (capsule_of t v) out place ≡ write_value true t v out place
   unfolding write_value
@@ -37,22 +43,22 @@ module _ (t : ℕ) (v out : List ℕ) (place : ℕ) where
     unfolding capsule_of
     total = omega (arith, length-append (encode (length v)) v, length-encode (length v))
 
-    pub short : length out < place + (1 + head + length v) → writing (Refused output_too_short) out ≡ write_value true t v out place
+    pub short : length out < place + (1 + head + length v) → writing (Err output_too_short) out ≡ write_value true t v out place
     short l = at-short ∙ written g
       where
-        at-short : writing (Refused output_too_short) out ≡ write_at (capsule_of t v) out place
+        at-short : writing (Err output_too_short) out ≡ write_at (capsule_of t v) out place
         at-short = (unfold write_at refuses in rw (lt-leb (place + length (capsule_of t v)) (length out) (omega (arith, total))))
 
-    wrote : {z : List ℕ} → place + (1 + head + length v) ≤ length out → z ≡ sets out place (t ∷ (encode (length v) ++ v)) → writing (Wrote (1 + head + length v)) z ≡ write_value true t v out place
+    wrote : {z : List ℕ} → place + (1 + head + length v) ≤ length out → z ≡ sets out place (t ∷ (encode (length v) ++ v)) → writing (Ok (1 + head + length v)) z ≡ write_value true t v out place
     unfolding write_at capsule_of
     wrote {z} l e =
-        let a : writing (Wrote (1 + head + length v)) z ≡ write_at (capsule_of t v) out place = rw (le-leb (place + length (capsule_of t v)) (length out) (omega (arith, total)), e, total) in
+        let a : writing (Ok (1 + head + length v)) z ≡ write_at (capsule_of t v) out place = rw (le-leb (place + length (capsule_of t v)) (length out) (omega (arith, total)), e, total) in
         a ∙ written g
 
     -- the type, the length and the value, put one after another
-    pub fits : place + (1 + head + length v) ≤ length out → {y z : List ℕ} {w : Written} {d : Bool}
+    pub fits : place + (1 + head + length v) ≤ length out → {y z : List ℕ} {w : (Result ℕ Refusal)} {d : Bool}
         → writing w y ≡ write_varint (length v) (set out place t) (place + 1) → copying d z ≡ copy v 0 y (place + (1 + head)) (length v)
-        → writing (Wrote (1 + head + length v)) z ≡ write_value true t v out place
+        → writing (Ok (1 + head + length v)) z ≡ write_value true t v out place
     fits l {y} {z} {w} {d} e f =
         let n : ℕ = length v in
         let m : place + (1 + head) ≡ place + 1 + head = omega arith in
@@ -65,39 +71,36 @@ module _ (t : ℕ) (v out : List ℕ) (place : ℕ) where
 
 -- ---- the value put together
 
-module _ (routes : Bool) (row : List ℕ) (t : ℕ) (v out : List ℕ) (place size : ℕ) (e : size ≡ size_in routes) where
-  pub surplus : (length row % size ≡ 0 → ⊥) → writing (Refused malformed_to_write) out ≡ write_value (is_whole (size_in routes) row) t v out place
-  unfolding write_value is_whole refuses
-  surplus n = rw (← e, ne_eqb (length row % size) 0 n)
-
-  module _ (w : length row % size ≡ 0) where
-    whole_row : write_value true t v out place ≡ write_value (is_whole (size_in routes) row) t v out place
-    unfolding is_whole
-    whole_row = rw (← e, eq-eqb (length row % size) 0 w)
-
-    module _ (before after : List ℕ) (n : ℕ) (g : Gathered v before after n) where
-      pub too_long : 1024 < n → writing (Refused malformed_to_write) out ≡ write_value (is_whole (size_in routes) row) t v out place
-      too_long h = malformed t v out place (long_malformed t v (g.long h)) ∙ whole_row
-
-      pub gathered : n ≤ 1024 → 1024 ≤ length before → (x : Writing) → x ≡ write_value true t (take n after) out place → x ≡ write_value (is_whole (size_in routes) row) t v out place
-      gathered h l x d =
-          let p = g.whole h in
-          let m : 0 + length v ≤ length before = omega (arith, p.next) in
-          let s : after ≡ v ++ drop (0 + length v) before = p.stored ∙ sets-eq v before 0 m in
-          let f : take n after ≡ v = ap (take n) s ∙ take_at v (drop (0 + length v) before) n (omega (arith, p.next)) in
-          d ∙ ap (λ (u : List ℕ). write_value true t u out place) f ∙ whole_row
+-- a part of a value that is too long is so itself
+pub gathered : {v before after : List ℕ} {n : ℕ} → Gathered v before after n → 1024 ≤ length before → n ≤ length after
+    → (whole : Bool) (t : ℕ) (out : List ℕ) (place : ℕ) → write_value whole t (take n after) out place ≡ write_value whole t v out place
+gathered {v} {before} {after} {n} g l h whole t out place = go (leb n 1024) refl
+  where
+    go : (b : Bool) → leb n 1024 ≡ b → write_value whole t (take n after) out place ≡ write_value whole t v out place
+    go true e =
+        let p = g.whole (leb-true n 1024 e) in
+        let m : 0 + length v ≤ length before = omega (arith, p.next, leb-true n 1024 e) in
+        let s : after ≡ v ++ drop (0 + length v) before = p.stored ∙ sets-eq v before 0 m in
+        let f : take n after ≡ v = ap (take n) s ∙ take_at v (drop (0 + length v) before) n (omega (arith, p.next)) in
+        rw f
+    go false e =
+        let k : 1024 < n = leb-false n 1024 e in
+        let m : length (take n after) ≡ n = length-take-le n after h in
+        let p = long_malformed t (take n after) (omega arith) in
+        let q = long_malformed t v (g.long k) in
+        sym (malformed t (take n after) out place whole (inr p)) ∙ malformed t v out place whole (inr q)
 
 -- ---- by the type
 
 module _ (row out : List ℕ) (place : ℕ) where
-  pub large : (t : ℕ) → all_of id_fits (entries_in row) ≡ false → writing (Refused number_too_large) out ≡ write_addresses t row out place
+  pub large : (t : ℕ) → all_of id_fits (entries_in row) ≡ false → writing (Err number_too_large) out ≡ write_addresses t row out place
   unfolding write_addresses refuses
   large t e = rw e
 
-  pub addresses : (t : ℕ) → all_of id_fits (entries_in row) ≡ true → write_value (is_whole (size_in false) row) t (value_in false row) out place ≡ write_addresses t row out place
-  unfolding write_addresses value_in size_in
+  pub addresses : (t : ℕ) → all_of id_fits (entries_in row) ≡ true → write_value (is_whole 32 row) t (value_in false row) out place ≡ write_addresses t row out place
+  unfolding write_addresses value_in
   addresses t e = rw e
 
-  pub routes : write_value (is_whole (size_in true) row) 3 (value_in true row) out place ≡ write_routes row out place
-  unfolding write_routes value_in size_in
+  pub routes : write_value (is_whole 34 row) 3 (value_in true row) out place ≡ write_routes row out place
+  unfolding write_routes value_in
   routes = refl

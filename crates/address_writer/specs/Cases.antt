@@ -1,8 +1,7 @@
 -- Calls of the writers, with what they come to.
-use Rattle.std.specs.Prelude.{ℕ, zero, suc, ◌≡◌, List, [], ◌∷◌, ◌++◌, map, take, replicate}
+use Rattle.refusals.specs.declared.Refusal.{Refusal}
+use Rattle.std.specs.Prelude.{ℕ, zero, suc, ◌≡◌, List, [], ◌∷◌, ◌++◌, map, take, replicate, Result, Ok, Err}
 use Rattle.refusals.specs.Numbers.{refusal}
-use Rattle.wire.specs.declared.varint.Written.{Written}
-use Rattle.wire.specs.declared.varint.Written.TheVariants.{Refused, Wrote}
 use Rattle.wire.specs.Writing.{writing}
 use Rattle.address_writer.specs.Claims.{AddressCapsule, address_assign, address_request, route_advertisement, write_of}
 
@@ -44,14 +43,14 @@ pub record Case : Type 0 where
   pub row : List ℕ
   pub out : List ℕ
   pub place : ℕ
-  pub answer : Written
+  pub answer : Result ℕ Refusal
   pub after : List ℕ
 
 abbrev wrote : AddressCapsule → List ℕ → List ℕ → ℕ → ℕ → List ℕ → Case
-wrote k row out place n after = record { capsule = k; row = row; out = out; place = place; answer = Wrote n; after = after }
+wrote k row out place n after = record { capsule = k; row = row; out = out; place = place; answer = Ok n; after = after }
 
 abbrev refused : AddressCapsule → List ℕ → List ℕ → ℕ → ℕ → Case
-refused k row out place n = record { capsule = k; row = row; out = out; place = place; answer = Refused (refusal n); after = out }
+refused k row out place n = record { capsule = k; row = row; out = out; place = place; answer = Err (refusal n); after = out }
 
 abbrev cases : List Case
 cases =
@@ -120,22 +119,22 @@ pub record Long : Type 0 where
   pub capsule : AddressCapsule
   pub row : List ℕ
   pub room : ℕ
-  pub answer : Written
+  pub answer : Result ℕ Refusal
 
-abbrev long : AddressCapsule → List ℕ → ℕ → Written → Long
+abbrev long : AddressCapsule → List ℕ → ℕ → Result ℕ Refusal → Long
 long k row n a = record { capsule = k; row = row; room = n; answer = a }
 
 abbrev long_cases : List Long
 long_cases =
     -- 122 entries of 8 bytes and 7 of 7 bytes are 1,025 bytes; one of 8 bytes changed for one of 7 makes 1,024
-    long address_assign (entries_of id258 122 (entries_of (small 1) 7 [])) 1100 (Refused (refusal 26)) ∷
-    long address_assign (entries_of id258 121 (entries_of (small 1) 8 [])) 1027 (Wrote 1027) ∷
-    long address_request (entries_of id258 128 []) 1026 (Refused (refusal 5)) ∷
+    long address_assign (entries_of id258 122 (entries_of (small 1) 7 [])) 1100 (Err (refusal 26)) ∷
+    long address_assign (entries_of id258 121 (entries_of (small 1) 8 [])) 1027 (Ok 1027) ∷
+    long address_request (entries_of id258 128 []) 1026 (Err (refusal 5)) ∷
     -- an ID behind 1,024 bytes of value
-    long address_request (entries_of id258 129 (entries_of id_too_large 1 [])) 1100 (Refused (refusal 6)) ∷
+    long address_request (entries_of id258 129 (entries_of id_too_large 1 [])) 1100 (Err (refusal 6)) ∷
     -- 82 ranges of IP version 4 and 6 of version 6 are 1,024 bytes
-    long route_advertisement (ranges_of4 0 82 (ranges_of6 0 6)) 1027 (Wrote 1027) ∷
-    long route_advertisement (ranges_of4 0 83 (ranges_of6 0 6)) 1100 (Refused (refusal 26)) ∷
+    long route_advertisement (ranges_of4 0 82 (ranges_of6 0 6)) 1027 (Ok 1027) ∷
+    long route_advertisement (ranges_of4 0 83 (ranges_of6 0 6)) 1100 (Err (refusal 26)) ∷
     []
 
 abbrev pub AllCases : Type 0

@@ -1,11 +1,9 @@
 -- What holds of the writers: each claim is a type here, and is proved in proofs/ under its name in lower case with dashes.
-use Rattle.std.specs.Prelude.{ℕ, ◌+◌, ◌-◌, ◌*◌, ◌/◌, ◌%◌, ◌^◌, ◌≤◌, ◌<◌, ◌≡◌, ◌↔◌, Bool, true, false, ◌&&◌, not, List, [], ◌∷◌, length, take, drop, leb, ltb, eqb}
-use Rattle.std.proofs.Math.Option.{some}
-use Rattle.std.proofs.Math.ListN.{get_elem?}
+use Rattle.short_forms.specs.Short.{varint_of}
+use Rattle.std.specs.Prelude.{ℕ, ◌+◌, ◌-◌, ◌*◌, ◌/◌, ◌%◌, ◌^◌, ◌≤◌, ◌<◌, ◌≡◌, ◌↔◌, Bool, true, false, ◌&&◌, not, List, [], ◌∷◌, length, take, drop, leb, ltb, eqb, Some, Ok, Err}
+use Rattle.std.specs.Prelude.{slice_get}
 use Rattle.refusals.specs.declared.Refusal.{Refusal}
 use Rattle.refusals.specs.Numbers.{output_too_short, number_too_large, malformed_to_write}
-use Rattle.wire.specs.declared.varint.Varint.TheVariants.{Whole}
-use Rattle.wire.specs.declared.varint.Written.TheVariants.{Refused, Wrote}
 use Rattle.wire.specs.Bytes.{Bytes}
 use Rattle.wire.specs.Varint.{largest, read_varint}
 use Rattle.wire.specs.Writing.{Writing, writing}
@@ -30,7 +28,7 @@ OneCapsule = (t : ℕ) (v : List ℕ) → t ≤ 63 → length v ≤ largest → 
 
 -- its header is shortest: the type has one byte, and no byte list that reads as the length is shorter
 abbrev pub HeaderShortest : Type 0
-HeaderShortest = (t : ℕ) (v s : List ℕ) (size : ℕ) → read_varint s ≡ Whole (length v) size → length (capsule_of t v) ≤ 1 + (size + length v)
+HeaderShortest = (t : ℕ) (v s : List ℕ) (size : ℕ) → read_varint s ≡ Some (varint_of (length v) size) → length (capsule_of t v) ≤ 1 + (size + length v)
 
 -- ---- the row of records that is lent (proofs/Counting.antt)
 
@@ -41,7 +39,7 @@ WholeExactly = (size : ℕ) (row : List ℕ) → (is_whole size row ≡ true) �
 -- every whole record is an entry, in order: entry k starts at k sizes
 abbrev pub EntriesOf : {A : Type 0} → ℕ → (List ℕ → A) → (List ℕ → List A) → Type 0
 EntriesOf size entry entries_of =
-    (row : List ℕ) → (length (entries_of row) ≡ length row / size) × ((k : ℕ) → k < length row / size → get_elem? (entries_of row) k ≡ some (entry (drop (size * k) row)))
+    (row : List ℕ) → (length (entries_of row) ≡ length row / size) × ((k : ℕ) → k < length row / size → slice_get (entries_of row) k ≡ Some (entry (drop (size * k) row)))
 
 abbrev pub EveryEntry : Type 0
 EveryEntry = EntriesOf 32 entry_of entries_in × EntriesOf 34 range_of ranges_in
@@ -75,7 +73,7 @@ all_known f es = all_of (λ e. ltb 0 (width_of (f.version e))) es
 
 -- the value of entries reads back as those entries
 abbrev pub ReadsBackAs : {A : Type 0} → Form A → Type 0
-ReadsBackAs {A} f = (es : List A) → all_of f.fits es ≡ true → all_known f es ≡ true → entries f.read (value_bytes f.bytes es) ≡ some es
+ReadsBackAs {A} f = (es : List A) → all_of f.fits es ≡ true → all_known f es ≡ true → entries f.read (value_bytes f.bytes es) ≡ Some es
 
 abbrev pub ReadsBack : Type 0
 ReadsBack = ReadsBackAs addresses × ReadsBackAs ranges
@@ -139,10 +137,10 @@ keeps_rules route_advertisement row = is_whole range_size row && is_writable ran
 
 -- by whether an ID is too large, whether the rules are kept, and the capsule's bytes
 pub record Answered (large kept : Bool) (bytes out : List ℕ) (place : ℕ) (w : Writing) : Type 0 where
-  pub too_large : (w.answer ≡ Refused number_too_large) ↔ (large ≡ true)
-  pub malformed : (w.answer ≡ Refused malformed_to_write) ↔ ((large ≡ false) × (kept ≡ false))
-  pub too_short : (w.answer ≡ Refused output_too_short) ↔ ((large ≡ false) × (kept ≡ true) × (length out < place + length bytes))
-  pub written : (w.answer ≡ Wrote (length bytes)) ↔ ((large ≡ false) × (kept ≡ true) × (place + length bytes ≤ length out))
+  pub too_large : (w.answer ≡ Err number_too_large) ↔ (large ≡ true)
+  pub malformed : (w.answer ≡ Err malformed_to_write) ↔ ((large ≡ false) × (kept ≡ false))
+  pub too_short : (w.answer ≡ Err output_too_short) ↔ ((large ≡ false) × (kept ≡ true) × (length out < place + length bytes))
+  pub written : (w.answer ≡ Ok (length bytes)) ↔ ((large ≡ false) × (kept ≡ true) × (place + length bytes ≤ length out))
 
 -- 6, 26 and 5 are answered each exactly then, in this order, and nothing else is refused
 abbrev pub RefusedExactly : Type 0
@@ -153,9 +151,9 @@ RefusedExactly =
 
 -- the value reads back as the row's entries
 abbrev pub ReadBackAs : AddressCapsule → List ℕ → List ℕ → Type 0
-ReadBackAs address_assign v row = entries entry_at v ≡ some (entries_in row)
-ReadBackAs address_request v row = entries entry_at v ≡ some (entries_in row)
-ReadBackAs route_advertisement v row = entries range_at v ≡ some (ranges_in row)
+ReadBackAs address_assign v row = entries entry_at v ≡ Some (entries_in row)
+ReadBackAs address_request v row = entries entry_at v ≡ Some (entries_in row)
+ReadBackAs route_advertisement v row = entries range_at v ≡ Some (ranges_in row)
 
 -- an endpoint that opted in reads that one capsule, and delivers it
 abbrev pub DeliveredTo : Opening → ℕ → List ℕ → Type 0
@@ -178,11 +176,11 @@ abbrev pub WrittenStands : Type 0
 WrittenStands =
     (k : AddressCapsule) (row out : List ℕ) (place n : ℕ) (after : List ℕ)
     → Bytes row
-    → write_of k row out place ≡ writing (Wrote n) after
+    → write_of k row out place ≡ writing (Ok n) after
     → Standing k row out place n after
 
 abbrev pub RefusedNothing : Type 0
 RefusedNothing =
     (k : AddressCapsule) (row out : List ℕ) (place : ℕ) (r : Refusal) (after : List ℕ)
-    → write_of k row out place ≡ writing (Refused r) after
+    → write_of k row out place ≡ writing (Err r) after
     → after ≡ out

@@ -1,6 +1,8 @@
 -- A value is the bytes of its entries. Assumes nothing.
-use Rattle.walks.proofs.Words.{◌≡◌, refl, sym, ap, ◌∙◌, Option, none, some, ℕ, zero, suc, ◌+◌, ◌-◌, ◌*◌, ◌/◌, ◌%◌, ◌^◌, ◌≤◌, ◌<◌, div-div-eq-div-mul, div-add-mod', mod-lt, arith, List, [], ◌∷◌, ◌++◌, length, take, length-take-le, drop-append_seam, pow-add, pow_pos}
-use Rattle.addresses.proofs.Terms.{Whole, Bytes, num, bytes_of, size_of, value_of, read_varint, encode_as, encode, pow_256, num-first, num_lt, bytes_of-num, bytes_take, bytes_drop, split, size_of_pos, size_of-at, read_whole, read-less, whole_incomplete, Step, done, malformed, next, ahead, entries, width_of, Entry, entry_at, Range, range_at, entry_bytes, range_bytes, value_bytes, SizedEntry, sized_for, sized_at, sized_bytes, Each, IsEntry, IsRange, IsBytesOf, NothingLost, SizesBeside, WrittenShortest, Decides, EntriesDecide}
+use Rattle.std.specs.Prelude.{Some}
+use Rattle.short_forms.specs.Short.{varint_of}
+use Rattle.walks.proofs.Words.{◌≡◌, refl, sym, ap, ◌∙◌, Option, None, ℕ, zero, suc, ◌+◌, ◌-◌, ◌*◌, ◌/◌, ◌%◌, ◌^◌, ◌≤◌, ◌<◌, div-div-eq-div-mul, div-add-mod', mod-lt, arith, List, [], ◌∷◌, ◌++◌, length, take, length-take-le, drop-append_seam, pow-add, pow_pos}
+use Rattle.addresses.proofs.Terms.{Bytes, num, bytes_of, size_of, value_of, read_varint, encode_as, encode, pow_256, num-first, num_lt, bytes_of-num, bytes_take, bytes_drop, split, size_of_pos, size_of-at, read_whole, read-less, whole_incomplete, whole_same, Step, done, malformed, next, ahead, entries, width_of, Entry, entry_at, Range, range_at, entry_bytes, range_bytes, value_bytes, SizedEntry, sized_for, sized_at, sized_bytes, Each, IsEntry, IsRange, IsBytesOf, NothingLost, SizesBeside, WrittenShortest, Decides, EntriesDecide}
 use Rattle.addresses.proofs.{Lists.impossible, Lists.Shrinks, Lists.entries-end, Lists.entries_malformed, Lists.entries_next, Lists.map_step, Lists.entries-map, Reading.entry_not_end, Reading.entry_front, Reading.entry_shrinks, Reading.RangeFront, Reading.range_front, Reading.range_shrinks, Reading.range_not_end}
 
 -- ---- any entries
@@ -12,19 +14,19 @@ module _ {A : Type 0} (read : List ℕ → Step A) (bytes : A → List ℕ) (Is 
   rest-bytes : (v rest : List ℕ) (e : A) → Bytes v → v ≡ bytes e ++ rest → Bytes rest
   rest-bytes v rest e b p = rw (p, drop-append_seam (bytes e) rest) at (bytes_drop (length (bytes e)) v b)
 
-  shorter : (n : ℕ) (v : List ℕ) → length v < n → (es : List A) → Bytes v → entries read v ≡ some es → (v ≡ value_bytes bytes es) × Each Is es
+  shorter : (n : ℕ) (v : List ℕ) → length v < n → (es : List A) → Bytes v → entries read v ≡ Some es → (v ≡ value_bytes bytes es) × Each Is es
   unfolding value_bytes ahead
   shorter zero v h es b p = absurd (let z : ⊥ = omega arith in z)
   shorter (suc n) v h es b p = go (λ t k. shorter n t k) (read v) refl
     where
-      go : ((t : List ℕ) → length t < n → (es : List A) → Bytes t → entries read t ≡ some es → (t ≡ value_bytes bytes es) × Each Is es) → (s : Step A) → read v ≡ s → (v ≡ value_bytes bytes es) × Each Is es
+      go : ((t : List ℕ) → length t < n → (es : List A) → Bytes t → entries read t ≡ Some es → (t ≡ value_bytes bytes es) × Each Is es) → (s : Step A) → read v ≡ s → (v ≡ value_bytes bytes es) × Each Is es
       go again done e = let is_e : es ≡ [] = cc (entries-end read shrinks v e) in rw is_e (ends v e, tt)
       go again malformed e = impossible (cc (entries_malformed read shrinks v e))
       go again (next a rest) e = on (entries read rest) refl
         where
           on : (o : Option (List A)) → entries read rest ≡ o → (v ≡ value_bytes bytes es) × Each Is es
-          on none d = impossible (cc (entries_next read shrinks v rest a e ∙ ap (ahead a) d))
-          on (some l) d =
+          on None d = impossible (cc (entries_next read shrinks v rest a e ∙ ap (ahead a) d))
+          on (Some l) d =
               let is_e : es ≡ a ∷ l = cc (entries_next read shrinks v rest a e ∙ ap (ahead a) d) in
               let front = fronts v rest a b e in
               let k = shrinks v rest a e in
@@ -52,17 +54,16 @@ id_bytes_lem b s j e l h =
     let whole : b / 64 * (256 ^ j * 64) + n % (256 ^ j * 64) ≡ n = rw top at (div-add-mod' n (256 ^ j * 64)) in
     rw (e, room, whole) (sym (rw is_l at (bytes_of-num (b ∷ take j s) (h.0, d))))
 
-id_front : (b : ℕ) (s : List ℕ) (n k : ℕ) → Bytes (b ∷ s) → read_varint (b ∷ s) ≡ Whole n k → (take k (b ∷ s) ≡ encode_as (b / 64) n) × (n < 2 ^ (8 * 2 ^ (b / 64) - 2))
+id_front : (b : ℕ) (s : List ℕ) (n k : ℕ) → Bytes (b ∷ s) → read_varint (b ∷ s) ≡ Some (varint_of n k) → (take k (b ∷ s) ≡ encode_as (b / 64) n) × (n < 2 ^ (8 * 2 ^ (b / 64) - 2))
 id_front b s n k h e = split (size_of b) (length (b ∷ s)) (λ l. go (size_of b) refl l (size_of_pos b)) (λ l. whole_incomplete e (read-less b s l))
   where
     go : (j : ℕ) → size_of b ≡ j → size_of b ≤ length (b ∷ s) → 0 < size_of b → (take k (b ∷ s) ≡ encode_as (b / 64) n) × (n < 2 ^ (8 * 2 ^ (b / 64) - 2))
     go zero d l p = absurd (let z : ⊥ = omega arith in z)
     go (suc j) d l p =
         let w = rw d at (read_whole b s l) in
-        let is_k : k ≡ suc j = cc in
-        let is_n : n ≡ value_of (suc j) (num (b ∷ take j s)) = cc in
+        let same = whole_same (sym e ∙ w) in
         let is_j : 2 ^ (b / 64) ≡ suc j = size_of-at b (b / 64) refl ∙ d in
-        rw (is_k, is_n) (id_bytes_lem b s j d (omega arith) h, rw is_j (unfold value_of in mod-lt (num (b ∷ take j s)) (pow_pos (8 * suc j - 2))))
+        rw (same.1, same.0) (id_bytes_lem b s j d (omega arith) h, rw is_j (unfold value_of in mod-lt (num (b ∷ take j s)) (pow_pos (8 * suc j - 2))))
 
 -- ---- ASSIGN and REQUEST
 

@@ -1,47 +1,47 @@
 -- What the code's tests say of entries at their places. Assumes nothing.
-use Rattle.walks.proofs.Words.{◌≡◌, refl, sym, ap, Bool, true, false, cond, ◌&&◌, ℕ, zero, suc, ◌+◌, ◌*◌, ◌≤◌, ◌<◌, arith, List, get_or, take, drop, ltb, eqb, lt-ltb, le-ltb, le-leb, lt-leb, eqb-true, eqb-false}
-use Rattle.addresses.proofs.Terms.{entries, are_good, all_of, width_of, Entry, good_entry, asks, clear_beyond, entry_at, entry_in, placed, EntryRead, Place}
-use Rattle.addresses.specs.declared.Place.TheVariants as place
+use Rattle.walks.proofs.Words.{◌≡◌, refl, sym, Bool, true, false, cond, ◌&&◌, ℕ, ◌*◌, ◌≤◌, ◌<◌, arith, List, drop, lt-ltb, le-ltb, le-leb, lt-leb, ◌⊎◌, ⊎_elim, true≢false}
+use Rattle.addresses.proofs.Terms.{entries, are_good, all_of, width_of, Entry, good_entry, asks, clear_beyond, entry_at, entry_lent, placed, EntryRead, Malformed}
+use Rattle.std.specs.Prelude.{Result, Ok, Err, Option, Some, None}
+use Rattle.addresses.specs.declared.Entry as lent
 use Rattle.addresses.proofs.{Lists.judged-end, Lists.judged_malformed, Lists.judged-next, Reading.entry_shrinks}
 
-module _ (v : List ℕ) (id version a w p : ℕ) (is_p : p ≡ get_or v (a + w) 0) (is_w : w ≡ width_of version) where
-  pub entry-long : 8 * w < p → false ≡ good_entry (entry_in v id version a w)
-  unfolding good_entry entry_in
-  entry-long h = rw (← is_w, ← is_p, lt-leb p (8 * w) h)
+module _ (e : Entry) (w : ℕ) (is_w : w ≡ width_of e.version) where
+  pub entry-long : 8 * w < e.prefix → false ≡ good_entry e
+  unfolding good_entry
+  entry-long h = rw (← is_w, lt-leb e.prefix (8 * w) h)
 
-  pub entry-short : p ≤ 8 * w → clear_beyond p (take w (drop a v)) ≡ good_entry (entry_in v id version a w)
-  unfolding good_entry entry_in
-  entry-short h = rw (← is_w, ← is_p, le-leb p (8 * w) h)
+  pub entry-short : e.prefix ≤ 8 * w → clear_beyond e.prefix e.address ≡ good_entry e
+  unfolding good_entry
+  entry-short h = rw (← is_w, le-leb e.prefix (8 * w) h)
 
 -- of an entry that asks, or not
-module _ (asking : Bool) (v : List ℕ) (id version a w : ℕ) where
-  abbrev ruled : Bool
-  ruled = cond asking asks good_entry (entry_in v id version a w)
-
-  pub asks_none : asking ≡ true → eqb id 0 ≡ true → ruled ≡ false
-  unfolding asks entry_in
-  asks_none y e = rw (y, le-ltb 0 id (omega (arith, eqb-true id 0 e)))
-
-  pub asks_some : asking ≡ true → eqb id 0 ≡ false → ruled ≡ good_entry (entry_in v id version a w)
+module _ (asking : Bool) (e : Entry) where
+  pub asks_none : asking ≡ true → e.id ≡ 0 → cond asking asks good_entry e ≡ false
   unfolding asks
-  asks_some y e = rw y (ap (λ (b : Bool). b && good_entry (entry_in v id version a w)) (some_id id (eqb-false id 0 e)))
+  asks_none y z = rw (y, le-ltb 0 e.id (omega arith))
+
+  pub asks_some : (asking ≡ false) ⊎ (e.id ≡ 0 → ⊥) → cond asking asks good_entry e ≡ good_entry e
+  asks_some f = go asking f
     where
-      some_id : (id : ℕ) → (id ≡ 0 → ⊥) → ltb 0 (entry_in v id version a w).id ≡ true
-      some_id zero f = absurd (f refl)
-      some_id (suc id) f = unfold entry_in in lt-ltb 0 (suc id) (omega arith)
+      go : (a : Bool) → (a ≡ false) ⊎ (e.id ≡ 0 → ⊥) → cond a asks good_entry e ≡ good_entry e
+      go false f = refl
+      go true f = ⊎_elim (λ z. absurd (true≢false z)) (λ n. some_id (omega (arith, n))) f
+        where
+          some_id : 0 < e.id → asks e ≡ good_entry e
+          some_id h = unfold asks in rw (lt-ltb 0 e.id h)
 
 -- a turn of the loop over a value's entries, by what is found
 module _ (good : Entry → Bool) (v : List ℕ) (at : ℕ) where
   abbrev judged : ℕ → Bool
   judged i = are_good (all_of good) (entries entry_at (drop i v))
 
-  abbrev pub Turn : Place → Type 0
-  Turn place.End = true ≡ judged at
-  Turn place.Malformed = false ≡ judged at
-  Turn (place.Entry id n a w) = good (entry_in v id n a w) && judged (a + w + 1) ≡ judged at
+  abbrev pub Turn : Result (Option lent.Entry) Malformed → Type 0
+  Turn (Ok None) = true ≡ judged at
+  Turn (Err m) = false ≡ judged at
+  Turn (Ok (Some e)) = good (entry_lent e) && judged e.next ≡ judged at
 
-  pub turn : (r : Place) → EntryRead (entry_at (drop at v)) v at r → Turn r
+  pub turn : (r : Result (Option lent.Entry) Malformed) → EntryRead (entry_at (drop at v)) v at r → Turn r
   unfolding placed all_of
-  turn place.End h = sym (judged-end entry_at entry_shrinks (all_of good) (drop at v) (sym h.reads))
-  turn place.Malformed h = sym (judged_malformed entry_at entry_shrinks (all_of good) (drop at v) (sym h.reads))
-  turn (place.Entry id n a w) h = sym (judged-next entry_at entry_shrinks (all_of good) (drop at v) (drop (a + w + 1) v) (entry_in v id n a w) (good (entry_in v id n a w)) (all_of good) (λ es. refl) (sym h.reads))
+  turn (Ok None) h = sym (judged-end entry_at entry_shrinks (all_of good) (drop at v) (sym h.reads))
+  turn (Err m) h = sym (judged_malformed entry_at entry_shrinks (all_of good) (drop at v) (sym h.reads))
+  turn (Ok (Some e)) h = sym (judged-next entry_at entry_shrinks (all_of good) (drop at v) (drop e.next v) (entry_lent e) (good (entry_lent e)) (all_of good) (λ es. refl) (sym h.reads))

@@ -1,5 +1,5 @@
 -- Entries one after another. Assumes nothing.
-use Rattle.walks.proofs.Words.{◌≡◌, refl, sym, ap, ◌∙◌, Bool, true, false, ◌&&◌, and-false, Option, none, some, option_map, ℕ, zero, suc, ◌<◌, arith, List, [], ◌∷◌, map, length}
+use Rattle.walks.proofs.Words.{◌≡◌, refl, sym, ap, ◌∙◌, Bool, true, false, ◌&&◌, and-false, Option, None, Some, option_map, ℕ, zero, suc, ◌<◌, arith, List, [], ◌∷◌, map, length}
 use Rattle.addresses.proofs.Terms.{Step, done, malformed, next, ahead, onwards, entries_by, entries, are_good}
 
 -- by `cc`, from two constructors that would be equal
@@ -32,11 +32,11 @@ module _ {A : Type 0} (read : List ℕ → Step A) (shrinks : Shrinks read) wher
           let k = shrinks v rest a e in
           by_next f v rest a e ∙ ap (ahead a) (again rest (omega arith) (omega arith)) ∙ sym (by_next g v rest a e)
 
-  pub entries-end : (v : List ℕ) → read v ≡ done → entries read v ≡ some []
+  pub entries-end : (v : List ℕ) → read v ≡ done → entries read v ≡ Some []
   unfolding entries entries_by onwards
   entries-end v e = rw e
 
-  pub entries_malformed : (v : List ℕ) → read v ≡ malformed → entries read v ≡ none
+  pub entries_malformed : (v : List ℕ) → read v ≡ malformed → entries read v ≡ None
   unfolding entries entries_by onwards
   entries_malformed v e = rw e
 
@@ -61,13 +61,13 @@ module _ {A : Type 0} (read : List ℕ → Step A) (shrinks : Shrinks read) wher
     judged-next rest a t more f e = ap (are_good good) (entries_next v rest a e) ∙ go (entries read rest)
       where
         go : (es : Option (List A)) → are_good good (ahead a es) ≡ t && are_good more es
-        go none = unfold are_good ahead in sym (and-false t)
-        go (some es) = unfold are_good ahead in f es
+        go None = unfold are_good ahead in sym (and-false t)
+        go (Some es) = unfold are_good ahead in f es
 
 pub map-ahead : {A B : Type 0} (form : A → B) (e : A) (es : Option (List A)) → option_map (map form) (ahead e es) ≡ ahead (form e) (option_map (map form) es)
 unfolding ahead
-map-ahead form e none = refl
-map-ahead form e (some es) = refl
+map-ahead form e None = refl
+map-ahead form e (Some es) = refl
 
 unfoldable pub map_step : {A B : Type 0} → (A → B) → Step A → Step B
 map_step form done = done

@@ -1,8 +1,10 @@
 -- Entries and ranges at a place of a value. Assumes nothing.
-use Rattle.walks.proofs.Words.{◌≡◌, refl, sym, ap, ◌∙◌, cond, ◌&&◌, and-true, ℕ, suc, ◌+◌, ◌-◌, ◌≤◌, ◌<◌, add-one, arith, List, [], ◌∷◌, ◌++◌, append_assoc, length, get_or, take, drop, length-drop, length-append, take-append-drop, drop-cons, drop-drop, drop_of_length-le, get_or-drop, take_all, take-add, split_at, append_snoc, length-take-le, ltb, lt-ltb, le-ltb}
-use Rattle.addresses.proofs.Terms.{Varint, Incomplete, Whole, Bytes, num, bytes_take, bytes_drop, read_varint, reads, split, Place, Step, done, malformed, next, width_of, Entry, address_at, identified, entry_at, Range, range_at, entry_in, placed, Inside, EntryRead, range_in, range_placed, RangeRead}
-use Rattle.addresses.specs.declared.Place.TheVariants as place
-use Rattle.addresses.specs.declared.RangePlace.TheVariants as range-place
+use Rattle.short_forms.specs.Short.{varint_of}
+use Rattle.walks.proofs.Words.{◌≡◌, refl, sym, ap, ◌∙◌, cond, ◌&&◌, and-true, ℕ, suc, ◌+◌, ◌-◌, ◌≤◌, ◌<◌, add-one, arith, List, [], ◌∷◌, ◌++◌, append_assoc, length, get_or, take, drop, length-drop, length-append, take-append-drop, drop-cons, drop-drop, drop_of_length-le, get_or-drop, take_all, take-add, split_at, append_snoc, length-take-le, ltb, lt-ltb, le-ltb, false≢true}
+use Rattle.addresses.proofs.Terms.{Varint, Bytes, num, bytes_take, bytes_drop, read_varint, reads, split, Malformed, Step, done, malformed, next, width_of, Entry, address_at, identified, entry_at, Range, range_at, entry_lent, placed, Inside, EntryRead, range_in, range_placed, RangeRead}
+use Rattle.std.specs.Prelude.{Result, Ok, Err, Option, Some, None}
+use Rattle.std.specs.Result.{IsErr}
+use Rattle.addresses.specs.declared.Entry as lent
 use Rattle.addresses.proofs.Lists.{impossible, Shrinks}
 
 -- the rest of a value, as the code lends it
@@ -64,7 +66,7 @@ address_front id (b ∷ v) rest e p =
 
 pub record EntryFront (v rest : List ℕ) (e : Entry) : Type 0 where
   pub size : ℕ
-  pub reads : read_varint v ≡ Whole e.id size
+  pub reads : read_varint v ≡ Some (varint_of e.id size)
   pub some : 0 < width_of e.version
   pub width : length e.address ≡ width_of e.version
   pub joins : v ≡ take size v ++ (e.version ∷ (e.address ++ (e.prefix ∷ []))) ++ rest
@@ -74,16 +76,16 @@ unfolding entry_at identified
 entry_front [] rest e p = impossible (cc)
 entry_front (b ∷ v) rest e p = go (read_varint (b ∷ v)) refl p
   where
-    go : (r : Varint) → read_varint (b ∷ v) ≡ r → identified (b ∷ v) r ≡ next e rest → EntryFront (b ∷ v) rest e
-    go Incomplete d q = impossible (cc)
-    go (Whole id k) d q =
-        let f = address_front id (drop k (b ∷ v)) rest e q in
+    go : (r : Option Varint) → read_varint (b ∷ v) ≡ r → identified (b ∷ v) r ≡ next e rest → EntryFront (b ∷ v) rest e
+    go None d q = impossible (cc)
+    go (Some read) d q =
+        let f = address_front read.value (drop read.size (b ∷ v)) rest e q in
         record {
-          size = k;
+          size = read.size;
           reads = rw f.is_id d;
           some = f.some;
           width = f.width;
-          joins = sym (take-append-drop k (b ∷ v)) ∙ ap (λ (s : List ℕ). take k (b ∷ v) ++ s) f.joins ∙ sym (append_assoc (take k (b ∷ v)) _ rest);
+          joins = sym (take-append-drop read.size (b ∷ v)) ∙ ap (λ (s : List ℕ). take read.size (b ∷ v) ++ s) f.joins ∙ sym (append_assoc (take read.size (b ∷ v)) _ rest);
         }
 
 pub entry_shrinks : Shrinks entry_at
@@ -101,63 +103,79 @@ unfolding entry_at identified
 entry_not_end [] h p = absurd (let z : ⊥ = omega arith in z)
 entry_not_end {X} (b ∷ v) h p = go (read_varint (b ∷ v)) p
   where
-    go : (r : Varint) → identified (b ∷ v) r ≡ done → X
-    go Incomplete q = impossible (cc)
-    go (Whole id k) q = address_not_end id (drop k (b ∷ v)) q
+    go : (r : Option Varint) → identified (b ∷ v) r ≡ done → X
+    go None q = impossible (cc)
+    go (Some read) q = address_not_end read.value (drop read.size (b ∷ v)) q
 
 module _ (v : List ℕ) (id at : ℕ) where
   abbrev width : ℕ
   width = width_of (get_or v at 0)
 
-  address_cons : at < length v → address_at id (drop at v) ≡ tested width width (length v - (at + 1)) (entry_in v id (get_or v at 0) (at + 1) width) (drop (at + 1 + width + 1) v)
-  unfolding address_at entry_in
+  abbrev entry_here : Entry
+  entry_here = record { id = id; version = get_or v at 0; address = take width (drop (at + 1) v); prefix = get_or v (at + 1 + width) 0 }
+
+  address_cons : at < length v → address_at id (drop at v) ≡ tested width width (length v - (at + 1)) entry_here (drop (at + 1 + width + 1) v)
+  unfolding address_at
   address_cons h =
       let n : suc at + (width + 1) ≡ at + 1 + width + 1 = omega arith in
       rw (drop-cons v at 0 h, length-drop (suc at) v, get_or-drop (suc at) v width 0, drop-drop (width + 1) (suc at) v, n, add-one at)
 
-  pub address_none : length v ≤ at → EntryRead (address_at id (drop at v)) v at place.Malformed
+  pub address_none : (m : Malformed) → length v ≤ at → EntryRead (address_at id (drop at v)) v at (Err m)
   unfolding address_at placed
-  address_none h = record { reads = rw (drop_of_length-le v h); inside = tt }
+  address_none m h = record { reads = rw (drop_of_length-le v h); inside = tt }
 
-  pub address-short : at < length v → (0 < width → width < length v - (at + 1) → ⊥) → EntryRead (address_at id (drop at v)) v at place.Malformed
+  pub address-short : (m : Malformed) → at < length v → (0 < width → width < length v - (at + 1) → ⊥) → EntryRead (address_at id (drop at v)) v at (Err m)
   unfolding placed
-  address-short h f = record { reads = sym (address_cons h ∙ fails width width _ _ _ f); inside = tt }
+  address-short m h f = record { reads = sym (address_cons h ∙ fails width width _ _ _ f); inside = tt }
 
-  pub address-whole : at < length v → 0 < width → width < length v - (at + 1) → width ≤ 16 → EntryRead (address_at id (drop at v)) v at (place.Entry id (get_or v at 0) (at + 1) width)
-  unfolding placed
-  address-whole h p e l = record { reads = sym (address_cons h ∙ passes width width _ _ _ p e); inside = (omega arith, omega arith, refl, l) }
+  pub address-whole : (e : lent.Entry) → entry_lent e ≡ entry_here → e.next ≡ at + 1 + width + 1
+      → at < length v → 0 < width → width < length v - (at + 1) → width ≤ 16 → EntryRead (address_at id (drop at v)) v at (Ok (Some e))
+  unfolding placed entry_lent
+  address-whole e i n h p q l =
+      let a : length e.address.now ≡ width = ap (λ (x : Entry). length x.address) i ∙ length-take-le width (drop (at + 1) v) (omega (arith, length-drop (at + 1) v)) in
+      let w : e.version ≡ get_or v at 0 = ap (λ (x : Entry). x.version) i in
+      record {
+        reads = ap (λ (x : Entry). next x (drop e.next v)) i ∙ rw n (sym (address_cons h ∙ passes width width _ _ _ p q));
+        inside = (omega arith, omega arith, rw w a, omega arith);
+      }
+
+-- what is refused is so for `?` too
+pub refused : {s : Step Entry} {v : List ℕ} {at : ℕ} {m : Malformed} (r : Result (Option lent.Entry) Malformed) → IsErr r → EntryRead s v at (Err m) → EntryRead s v at r
+unfolding placed
+refused (Ok x) h e = absurd (false≢true h)
+refused (Err n) h e = record { reads = e.reads; inside = tt }
 
 entry_some : (s : List ℕ) → 0 < length s → entry_at s ≡ identified s (read_varint s)
 entry_some [] h = absurd (let z : ⊥ = omega arith in z)
 entry_some (b ∷ s) h = unfold entry_at in refl
 
-pub entry_whole : (s : List ℕ) (id k : ℕ) → 0 < length s → read_varint s ≡ Whole id k → entry_at s ≡ address_at id (drop k s)
+pub entry_whole : (s : List ℕ) (id k : ℕ) → 0 < length s → read_varint s ≡ Some (varint_of id k) → entry_at s ≡ address_at id (drop k s)
 unfolding identified
 entry_whole s id k h e = entry_some s h ∙ rw e
 
 module _ (v : List ℕ) (at : ℕ) where
-  pub entry-end : length v ≤ at → EntryRead (entry_at (drop at v)) v at place.End
+  pub entry-end : length v ≤ at → EntryRead (entry_at (drop at v)) v at (Ok None)
   unfolding entry_at placed
   entry-end h = record { reads = rw (drop_of_length-le v h); inside = tt }
 
-  pub entry_cut : at < length v → read_varint (drop at v) ≡ Incomplete → EntryRead (entry_at (drop at v)) v at place.Malformed
+  pub entry_cut : (m : Malformed) → at < length v → read_varint (drop at v) ≡ None → EntryRead (entry_at (drop at v)) v at (Err m)
   unfolding placed identified
-  entry_cut h e = record { reads = sym (entry_some (drop at v) (omega (arith, length-drop at v)) ∙ rw e); inside = tt }
+  entry_cut m h e = record { reads = sym (entry_some (drop at v) (omega (arith, length-drop at v)) ∙ rw e); inside = tt }
 
-  pub id_within : (id k : ℕ) → read_varint (drop at v) ≡ Whole id k → k + at ≤ length v
+  pub id_within : (id k : ℕ) → read_varint (drop at v) ≡ Some (varint_of id k) → k + at ≤ length v
   id_within id k e = let r = reads (drop at v) id k e in omega (arith, r.fits, r.some, length-drop at v)
 
-  pub entry_goes_on : (id k : ℕ) (r : Place) → at < length v → read_varint (drop at v) ≡ Whole id k → EntryRead (address_at id (drop (at + k) v)) v (at + k) r → EntryRead (entry_at (drop at v)) v at r
+  pub entry_goes_on : (id k : ℕ) (r : Result (Option lent.Entry) Malformed) → at < length v → read_varint (drop at v) ≡ Some (varint_of id k) → EntryRead (address_at id (drop (at + k) v)) v (at + k) r → EntryRead (entry_at (drop at v)) v at r
   entry_goes_on id k r h e a =
       record {
         reads = a.reads ∙ rw (← (drop-drop k at v)) (sym (entry_whole (drop at v) id k (omega (arith, length-drop at v)) e));
         inside = nearer r a.inside;
       }
     where
-      nearer : (r : Place) → Inside v (at + k) r → Inside v at r
-      nearer place.End i = tt
-      nearer place.Malformed i = tt
-      nearer (place.Entry d n b w) i = (omega (arith, i.0), i.1, i.2, i.3)
+      nearer : (r : Result (Option lent.Entry) Malformed) → Inside v (at + k) r → Inside v at r
+      nearer (Ok None) i = tt
+      nearer (Err m) i = tt
+      nearer (Ok (Some e)) i = (omega (arith, i.0), i.1, i.2, i.3)
 
 -- ---- ranges
 
@@ -219,14 +237,14 @@ module _ (v : List ℕ) (at : ℕ) where
       let m : suc at + (w + w) ≡ at + 1 + w + w = omega arith in
       rw (drop-cons v at 0 h, length-drop (suc at) v, get_or-drop (suc at) v (w + w) 0, drop-drop (w + w + 1) (suc at) v, drop-drop w (suc at) v, n, m, add-one at)
 
-  pub range-end : length v ≤ at → RangeRead v at range-place.End
+  pub range-end : length v ≤ at → RangeRead v at (Ok None)
   unfolding range_at range_placed
   range-end h = record { reads = rw (drop_of_length-le v h); inside = tt }
 
-  pub range-short : at < length v → (0 < width₂ → width₂ + width₂ < length v - (at + 1) → ⊥) → RangeRead v at range-place.Malformed
+  pub range-short : (m : Malformed) → at < length v → (0 < width₂ → width₂ + width₂ < length v - (at + 1) → ⊥) → RangeRead v at (Err m)
   unfolding range_placed
-  range-short h f = record { reads = sym (range_cons h ∙ fails width₂ (width₂ + width₂) _ _ _ f); inside = tt }
+  range-short m h f = record { reads = sym (range_cons h ∙ fails width₂ (width₂ + width₂) _ _ _ f); inside = tt }
 
-  pub range-whole : at < length v → 0 < width₂ → width₂ + width₂ < length v - (at + 1) → width₂ ≤ 16 → RangeRead v at (range-place.Range width₂)
+  pub range-whole : at < length v → 0 < width₂ → width₂ + width₂ < length v - (at + 1) → width₂ ≤ 16 → RangeRead v at (Ok (Some width₂))
   unfolding range_placed
   range-whole h p e l = record { reads = sym (range_cons h ∙ passes width₂ (width₂ + width₂) _ _ _ p e); inside = (omega arith, refl, l) }

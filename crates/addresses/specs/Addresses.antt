@@ -1,8 +1,7 @@
 -- The values of RFC 9484's address capsules (section 4.7): which are well formed.
-use Rattle.std.specs.Prelude.{ℕ, zero, suc, ◌+◌, ◌-◌, ◌*◌, ◌%◌, ◌^◌, Bool, true, false, cond, ◌&&◌, ◌||◌, not, List, [], ◌∷◌, length, take, drop, get_or, leb, ltb, eqb}
-use Rattle.std.proofs.Math.Option.{Option, none, some}
-use Rattle.wire.specs.declared.varint.Varint.{Varint}
-use Rattle.wire.specs.declared.varint.Varint.TheVariants.{Incomplete, Whole}
+use Rattle.short_forms.specs.declared.Varint.{Varint}
+use Rattle.std.specs.Prelude.{ℕ, zero, suc, ◌+◌, ◌-◌, ◌*◌, ◌%◌, ◌^◌, Bool, true, false, cond, ◌&&◌, ◌||◌, not, List, [], ◌∷◌, length, take, drop, get_or, leb, ltb, eqb, Some, None}
+use Rattle.std.specs.Prelude.{Option}
 use Rattle.wire.specs.Bytes.{num}
 use Rattle.wire.specs.Varint.{read_varint}
 
@@ -34,17 +33,17 @@ pub data Step (A : Type 0) : Type 0 where
   next : A → List ℕ → Step A
 
 unfoldable pub ahead : {A : Type 0} → A → Option (List A) → Option (List A)
-ahead e none = none
-ahead e (some es) = some (e ∷ es)
+ahead e None = None
+ahead e (Some es) = Some (e ∷ es)
 
 unfoldable pub onwards : {A : Type 0} → Step A → (List ℕ → Option (List A)) → Option (List A)
-onwards done rest = some []
-onwards malformed rest = none
+onwards done rest = Some []
+onwards malformed rest = None
 onwards (next e v) rest = ahead e (rest v)
 
 -- each entry takes one off the fuel, and at least one byte off the list
 unfoldable pub entries_by : {A : Type 0} → (List ℕ → Step A) → ℕ → List ℕ → Option (List A)
-entries_by read zero v = none
+entries_by read zero v = None
 entries_by read (suc fuel) v = onwards (read v) (entries_by read fuel)
 
 -- all entries of a list; none if it is malformed
@@ -56,8 +55,8 @@ all_of good [] = true
 all_of good (e ∷ es) = good e && all_of good es
 
 unfoldable pub are_good : {A : Type 0} → (List A → Bool) → Option (List A) → Bool
-are_good good none = false
-are_good good (some es) = good es
+are_good good None = false
+are_good good (Some es) = good es
 
 -- ---- ADDRESS_ASSIGN and ADDRESS_REQUEST
 
@@ -76,9 +75,9 @@ address_at id (version ∷ v) =
     (next (record { id = id; version = version; address = take w v; prefix = get_or v w 0 }) (drop (w + 1) v))
     malformed
 
-unfoldable pub identified : List ℕ → Varint → Step Entry
-identified v Incomplete = malformed
-identified v (Whole id k) = address_at id (drop k v)
+unfoldable pub identified : List ℕ → Option Varint → Step Entry
+identified v None = malformed
+identified v (Some read) = address_at read.value (drop read.size v)
 
 -- request ID, then the rest
 unfoldable pub entry_at : List ℕ → Step Entry

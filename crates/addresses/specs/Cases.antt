@@ -1,7 +1,7 @@
 -- Values, and whether they are well formed.
 use Rattle.std.specs.Prelude.{ℕ, zero, suc, ◌≡◌, Bool, true, false, List, [], ◌∷◌, map}
-use Rattle.std.proofs.Math.Option
-use Rattle.std.proofs.Math.Option.{some}
+use Rattle.std.specs.Option.{option_map}
+use Rattle.std.specs.Prelude.{Some}
 use Rattle.addresses.specs.Addresses.{is_address_type, well_formed, entries}
 use Rattle.addresses.specs.Sizes.{SizedEntry, sized_at}
 
@@ -119,4 +119,4 @@ two_addresses = 5 ∷ 4 ∷ 10 ∷ 0 ∷ 0 ∷ 1 ∷ 32 ∷ 64 ∷ 1 ∷ 6 ∷ 3
 
 -- request IDs in 1 and 2 bytes
 abbrev pub WidthsRead : Type 0
-WidthsRead = Option.map (map (λ (s : SizedEntry). s.width)) (entries sized_at two_addresses) ≡ some (0 ∷ 1 ∷ [])
+WidthsRead = option_map (map (λ (s : SizedEntry). s.width)) (entries sized_at two_addresses) ≡ Some (0 ∷ 1 ∷ [])

@@ -1,7 +1,7 @@
 -- What holds of the definitions: each claim is a type here, and is proved in proofs/ under the name given.
 use Rattle.std.specs.Prelude.{◌≡◌, ℕ, ◌-◌, ◌*◌, ◌%◌, ◌^◌, ◌≤◌, ◌<◌, List, [], ◌∷◌, map, length, eqb}
-use Rattle.std.proofs.Math.Option
-use Rattle.std.proofs.Math.Option.{some}
+use Rattle.std.specs.Option.{option_map}
+use Rattle.std.specs.Prelude.{Some}
 use Rattle.wire.specs.Bytes.{Bytes, num}
 use Rattle.wire.specs.Varint.{least_width}
 use Rattle.addresses.specs.Addresses.{Step, entries, width_of, Entry, entry_at, clear_beyond, Range, range_at}
@@ -27,7 +27,7 @@ IsRange r = let w = width_of r.version in (0 < w) × (r.start < 256 ^ w) × (r.e
 
 -- a value is the bytes of its entries, and they are such entries
 abbrev pub IsBytesOf : {A : Type 0} → (List ℕ → Step A) → (A → List ℕ) → (A → Type 0) → Type 0
-IsBytesOf {A} read bytes Is = (v : List ℕ) (es : List A) → Bytes v → entries read v ≡ some es → (v ≡ value_bytes bytes es) × Each Is es
+IsBytesOf {A} read bytes Is = (v : List ℕ) (es : List A) → Bytes v → entries read v ≡ Some es → (v ≡ value_bytes bytes es) × Each Is es
 
 -- of ASSIGN and REQUEST, each request ID in the size in which it stands
 abbrev pub NothingLost : Type 0
@@ -35,14 +35,14 @@ NothingLost = IsBytesOf sized_at sized_bytes IsEntry × IsBytesOf range_at range
 
 -- and the bytes of entries are read as those entries
 abbrev pub ReadsBack : {A : Type 0} → (List ℕ → Step A) → (A → List ℕ) → (A → Type 0) → Type 0
-ReadsBack {A} read bytes Is = (es : List A) → Each Is es → entries read (value_bytes bytes es) ≡ some es
+ReadsBack {A} read bytes Is = (es : List A) → Each Is es → entries read (value_bytes bytes es) ≡ Some es
 
 abbrev pub EveryValueRead : Type 0
 EveryValueRead = ReadsBack sized_at sized_bytes IsEntry × ReadsBack range_at range_bytes IsRange
 
 -- the sizes stand beside the entries that the value has without them
 abbrev pub SizesBeside : Type 0
-SizesBeside = (v : List ℕ) → Option.map (map (λ (s : SizedEntry). s.entry)) (entries sized_at v) ≡ entries entry_at v
+SizesBeside = (v : List ℕ) → option_map (map (λ (s : SizedEntry). s.entry)) (entries sized_at v) ≡ entries entry_at v
 
 -- entries as they are written have each ID in its least size
 abbrev pub WrittenShortest : Type 0
@@ -50,7 +50,7 @@ WrittenShortest = (e : Entry) → entry_bytes e ≡ sized_bytes (record { width 
 
 -- two values with the same entries are one
 abbrev pub Decides : {A : Type 0} → (List ℕ → Step A) → Type 0
-Decides {A} read = (u v : List ℕ) (es : List A) → Bytes u → Bytes v → entries read u ≡ some es → entries read v ≡ some es → u ≡ v
+Decides {A} read = (u v : List ℕ) (es : List A) → Bytes u → Bytes v → entries read u ≡ Some es → entries read v ≡ Some es → u ≡ v
 
 abbrev pub EntriesDecide : Type 0
 EntriesDecide = Decides sized_at × Decides range_at

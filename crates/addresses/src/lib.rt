@@ -1,72 +1,74 @@
 // Values of RFC 9484's address capsules (section 4.7).
 #![tactic(auto)]
 
-ghost use Rattle.std.specs.Prelude.{◌≡◌, cond, ◌+◌, ◌-◌, ◌%◌, ◌^◌, ◌≤◌, ◌<◌, length, take, drop, eqb};
+ghost use Rattle.std.specs.Prelude.{◌≡◌, cond, ◌-◌, ◌%◌, ◌^◌, ◌≤◌, length, drop, eqb};
 ghost use Rattle.addresses.specs.Addresses.{width_of, clear_beyond, good_entry, asks, all_of, are_good, entries, address_at, entry_at};
-ghost use Rattle.addresses.specs.Places.{entry_in, EntryRead, RangeRead};
+ghost use Rattle.addresses.specs.Places.{EntryRead, RangeRead, some_entry};
 
-use wire::varint::{Varint, read_varint};
+use wire::varint::read_varint;
 
-// Where an entry of a value stands: its address starts at `address` and is `width` bytes long, and its prefix length is the byte after it.
+// An entry of a value, which goes on at `next`.
 #[derive(Clone, Copy)]
-pub enum Place {
-    End,
-    Malformed,
-    Entry {
-        id: u64,
-        version: u8,
-        address: usize,
-        width: usize,
-    },
+pub struct Entry<'a> {
+    pub id: u64,
+    pub version: u8,
+    pub address: &'a [u8],
+    pub prefix: u8,
+    pub next: usize,
 }
 
-// A range of a value, whose addresses are so many bytes long.
-#[derive(Clone, Copy)]
-pub enum RangePlace {
-    End,
-    Malformed,
-    Range { width: usize },
+impl Entry<'_> {
+    ghost use Rattle.std.specs.Prelude.{◌≡◌, ◌≤◌, length};
+    ghost use Rattle.addresses.specs.Addresses.{width_of, good_entry};
+    ghost use Rattle.addresses.specs.Places.{entry_lent};
+
+    // The prefix is no longer than the address, whose bits beyond it are all 0.
+    fn is_good(&self) -> bool
+        requires { (length self.now.address.now ≡ width_of self.now.version) × (length self.now.address.now ≤ 16) }
+        ensures { result ≡ good_entry (entry_lent self.now) }
+    {
+        let prefix = u64::from(self.prefix);
+        prefix <= 8 * (self.address.len() as u64) && clear_beyond(self.address, prefix)
+    }
 }
 
-// ---- addresses
+// No whole entry or range starts at a place.
+#[derive(Clone, Copy)]
+pub struct Malformed;
 
 // ---- entries
 
-// The entry at a place; a place behind the value's end is its end.
-pub fn entry_at(value: &[u8], at: usize) -> Place
+// The entry at a place; none at the value's end or behind it.
+pub fn entry_at(value: &[u8], at: usize) -> Result<Option<Entry<'_>>, Malformed>
     ensures { EntryRead (entry_at (drop at value.now)) value.now at result }
 {
     if at >= value.len() {
-        return Place::End;
+        return Ok(None);
     }
     match read_varint(&value[at..]) {
-        Varint::Incomplete => Place::Malformed,
-        Varint::Whole { value: id, size } => address_at(value, id, at + size),
+        None => Err(Malformed),
+        Some(id) => Ok(Some(address_at(value, id.value, at + id.size)?)),
     }
 }
 
-// Every entry is good, and of an ADDRESS_REQUEST (`asking`) its request ID is not 0.
+// Every entry is good, and of an ADDRESS_REQUEST (`asking`) its request ID is not 0. The loop goes on where each entry
+// says, which an iterator would have to keep too; `asking` adds one test, and a closure for it would be no plainer.
 pub fn good_entries(value: &[u8], asking: bool) -> bool
     ensures { result ≡ are_good (all_of (cond asking asks good_entry)) (entries entry_at value.now) }
 {
     let mut at = 0;
     loop {
         match entry_at(value, at) {
-            Place::End => return true,
-            Place::Malformed => return false,
-            Place::Entry {
-                id,
-                version,
-                address,
-                width,
-            } => {
-                if asking && id == 0 {
+            Ok(None) => return true,
+            Err(Malformed) => return false,
+            Ok(Some(entry)) => {
+                if asking && entry.id == 0 {
                     return false;
                 }
-                if !good_entry(value, id, version, address, width) {
+                if !entry.is_good() {
                     return false;
                 }
-                at = address + width + 1;
+                at = entry.next;
             }
         }
     }
@@ -74,50 +76,48 @@ pub fn good_entries(value: &[u8], asking: bool) -> bool
 
 // ---- ranges
 
-// The range at a place; a place behind the value's end is its end.
-pub fn range_at(value: &[u8], at: usize) -> RangePlace
+// How many bytes the addresses of the range at a place have; none at the value's end or behind it. It answers a width
+// and no struct: the width is what `address_rules` searches by.
+pub fn range_at(value: &[u8], at: usize) -> Result<Option<usize>, Malformed>
     ensures { RangeRead value.now at result }
 {
     if at >= value.len() {
-        return RangePlace::End;
+        return Ok(None);
     }
     let width = width_of(value[at]);
-    if width == 0 {
-        return RangePlace::Malformed;
+    if width == 0 || value.len() - at - 1 <= width + width {
+        return Err(Malformed);
     }
-    if value.len() - at - 1 <= width + width {
-        return RangePlace::Malformed;
-    }
-    RangePlace::Range { width: width }
+    Ok(Some(width))
 }
 
-// Where an entry goes on behind its request ID.
-fn address_at(value: &[u8], id: u64, at: usize) -> Place
+// Where an entry goes on behind its request ID. The value and a place in it: the entry's end is told as a place of the
+// value.
+fn address_at(value: &[u8], id: u64, at: usize) -> Result<Entry<'_>, Malformed>
     requires { at ≤ length value.now }
-    ensures { EntryRead (address_at id (drop at value.now)) value.now at result }
+    ensures { EntryRead (address_at id (drop at value.now)) value.now at (some_entry result) }
 {
     if at == value.len() {
-        return Place::Malformed;
+        return Err(Malformed);
     }
     let version = value[at];
     let width = width_of(version);
-    if width == 0 {
-        return Place::Malformed;
+    let start = at + 1;
+    if width == 0 || value.len() - start <= width {
+        return Err(Malformed);
     }
-    let address = at + 1;
-    if value.len() - address <= width {
-        return Place::Malformed;
-    }
-    Place::Entry {
+    Ok(Entry {
         id: id,
         version: version,
-        address: address,
-        width: width,
-    }
+        address: &value[start..start + width],
+        prefix: value[start + width],
+        next: start + width + 1,
+    })
 }
 
-// How many bytes an address has, by its IP version; 0 for no version.
-fn width_of(version: u8) -> usize
+// How many bytes an address has, by its IP version; 0 for no version. A number and no Option: no address has 0 bytes,
+// and callers compare it, take it twice and add it.
+pub fn width_of(version: u8) -> usize
     ensures { (result ≡ width_of version) × (result ≤ 16) }
 {
     if version == 4 {
@@ -129,37 +129,16 @@ fn width_of(version: u8) -> usize
     }
 }
 
-// The prefix is no longer than the address, whose bits beyond it are all 0.
-fn good_entry(value: &[u8], id: u64, version: u8, address: usize, width: usize) -> bool
-    requires { (address + width < length value.now) × (width ≡ width_of version) × (width ≤ 16) }
-    ensures { result ≡ good_entry (entry_in value.now id version address width) }
-{
-    let prefix = wide(value[address + width]);
-    if prefix > 8 * (width as u64) {
-        return false;
-    }
-    clear_beyond(value, address, width, prefix)
-}
-
-fn wide(b: u8) -> u64
-    ensures { result ≡ b }
-{
-    b as u64
-}
-
-// The bits beyond the first `prefix` of the address at `at` are all 0.
-fn clear_beyond(value: &[u8], at: usize, width: usize, prefix: u64) -> bool
-    requires { at + width ≤ length value.now }
-    ensures { result ≡ clear_beyond prefix (take width (drop at value.now)) }
+// The bits of an address beyond the first `prefix` are all 0.
+fn clear_beyond(address: &[u8], prefix: u64) -> bool
+    ensures { result ≡ clear_beyond prefix address.now }
 {
     let mut left = prefix;
-    let mut i = 0;
-    while i < width {
-        if !clear_byte(value[at + i], left) {
+    for b in address {
+        if !clear_byte(*b, left) {
             return false;
         }
-        left = less_eight(left);
-        i += 1;
+        left = left.saturating_sub(8);
     }
     true
 }
@@ -172,11 +151,5 @@ fn clear_byte(b: u8, p: u64) -> bool
     if p >= 8 {
         return true;
     }
-    wide(b) % (1u64 << (8 - p)) == 0
-}
-
-fn less_eight(p: u64) -> u64
-    ensures { result ≡ p - 8 }
-{
-    if p >= 8 { p - 8 } else { 0 }
+    u64::from(b) % (1u64 << (8 - p)) == 0
 }

@@ -1,11 +1,11 @@
 -- How a call reads numbers, and the numbers of its answers. Every number has a reading.
-use Rattle.std.specs.Prelude.{ℕ, cond, leb, eqb}
-use Rattle.capsule.specs.declared.reader.CloseAnswer.{CloseAnswer}
-use Rattle.capsule.specs.declared.reader.CloseAnswer.TheVariants.{Refused, Clean, Truncated}
+use Rattle.refusals.specs.declared.Refusal.{Refusal}
+use Rattle.capsule.specs.declared.reader.Ending.{Ending}
+use Rattle.capsule.specs.declared.reader.Ending.TheVariants.{Clean, Truncated}
+use Rattle.http_messages.specs.declared.errors.HttpError.{HttpError}
+use Rattle.std.specs.Prelude.{ℕ, cond, leb, eqb, Option, Some, None, Result, Ok, Err}
 use Rattle.stream_records.specs.declared.record.Side.{Side}
 use Rattle.stream_records.specs.declared.record.Side.TheVariants.{Receive, Send}
-use Rattle.http_messages.specs.declared.errors.ErrorOf.{ErrorOf}
-use Rattle.http_messages.specs.declared.errors.ErrorOf.TheVariants.{NoError, Is}
 
 -- ---- readings
 
@@ -19,12 +19,12 @@ status_of n = cond (leb n 65535) n 0
 -- ---- numbers of answers (a refusal's is document 01's, its field 0)
 
 -- 0 where there is none
-unfoldable pub error_number : ErrorOf → ℕ
-error_number NoError = 0
-error_number (Is e) = e.0
+unfoldable pub error_number : Option HttpError → ℕ
+error_number None = 0
+error_number (Some e) = e.0
 
 -- how a stream ends: 1 clean, 2 truncated; 0 where that is not answered
-unfoldable pub end_number : CloseAnswer → ℕ
-end_number (Refused why) = 0
-end_number Clean = 1
-end_number Truncated = 2
+unfoldable pub end_number : Result Ending Refusal → ℕ
+end_number (Err why) = 0
+end_number (Ok Clean) = 1
+end_number (Ok Truncated) = 2

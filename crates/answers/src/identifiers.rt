@@ -4,7 +4,7 @@ ghost use Rattle.answers.specs.Identifiers.{quarter_answer, stream_answer};
 
 use crate::numbers::refusal_number;
 use refusals::Refusal;
-use wire::units::{QuarterOf, StreamOf};
+use wire::units::{Quarter, StreamId};
 
 #[repr(C)]
 #[derive(Clone, Copy)]
@@ -21,30 +21,32 @@ pub struct StreamIdAnswer {
     pub stream_id: u64,
 }
 
-pub fn quarter_answer(found: QuarterOf) -> QuarterAnswer
+#[tactic(auto, unfolding(crate::specs::Identifiers::quarter_answer))]
+pub fn quarter_answer(found: Option<Quarter>) -> QuarterAnswer
     ensures { result ≡ quarter_answer found }
 {
     match found {
-        QuarterOf::NotRequestStream => QuarterAnswer {
+        None => QuarterAnswer {
             refusal: refusal_number(Refusal::NOT_A_REQUEST_STREAM),
             quarter: 0,
         },
-        QuarterOf::Is(quarter) => QuarterAnswer {
+        Some(quarter) => QuarterAnswer {
             refusal: 0,
             quarter: quarter.0,
         },
     }
 }
 
-pub fn stream_answer(found: StreamOf) -> StreamIdAnswer
+#[tactic(auto, unfolding(crate::specs::Identifiers::stream_answer))]
+pub fn stream_answer(found: Option<StreamId>) -> StreamIdAnswer
     ensures { result ≡ stream_answer found }
 {
     match found {
-        StreamOf::TooLarge => StreamIdAnswer {
+        None => StreamIdAnswer {
             too_large: 1,
             stream_id: 0,
         },
-        StreamOf::Is(id) => StreamIdAnswer {
+        Some(id) => StreamIdAnswer {
             too_large: 0,
             stream_id: id.0,
         },

@@ -3,10 +3,10 @@ ghost use Rattle.std.specs.Prelude.{◌≡◌};
 ghost use Rattle.answers.specs.Messages.{message_of, field_answer, action_answer, translation_answer};
 
 use crate::numbers::{refusal_number, status_of};
-use capsule_protocol::field::FieldValue;
-use http_errors::translation::{Action, Translation};
+use http_errors::translation::Action;
 use http_messages::messages::Message;
 use reader_words::numbers::flag_of;
+use refusals::Refusal;
 
 // in_use: 1 or 0
 #[repr(C)]
@@ -36,61 +36,49 @@ pub fn message_of(response: u64, status: u64) -> Message
     Message::Request
 }
 
-pub fn field_answer(value: FieldValue) -> FieldAnswer
+#[tactic(auto, unfolding(crate::specs::Messages::field_answer))]
+pub fn field_answer(value: Result<bool, Refusal>) -> FieldAnswer
     ensures { result ≡ field_answer value }
 {
     match value {
-        FieldValue::Refused(why) => FieldAnswer {
+        Err(why) => FieldAnswer {
             refusal: refusal_number(why),
             in_use: 0,
         },
-        FieldValue::InUse => FieldAnswer {
+        Ok(in_use) => FieldAnswer {
             refusal: 0,
-            in_use: 1,
-        },
-        FieldValue::Absent => FieldAnswer {
-            refusal: 0,
-            in_use: 0,
+            in_use: u64::from(in_use),
         },
     }
 }
 
-pub fn translation_answer(translation: Translation) -> TranslationAnswer
+#[tactic(auto, unfolding(crate::specs::Messages::translation_answer))]
+pub fn translation_answer(translation: Result<Option<Action>, Refusal>) -> TranslationAnswer
     ensures { result ≡ translation_answer translation }
 {
     match translation {
-        Translation::Refused(why) => TranslationAnswer {
+        Err(why) => TranslationAnswer {
             refusal: refusal_number(why),
             action: 0,
             code: 0,
         },
-        Translation::Becomes(action) => action_answer(action),
+        Ok(action) => action_answer(action),
     }
 }
 
-fn action_answer(action: Action) -> TranslationAnswer
+#[tactic(auto, unfolding(crate::specs::Messages::action_answer))]
+fn action_answer(action: Option<Action>) -> TranslationAnswer
     ensures { result ≡ action_answer action }
 {
-    match action {
-        Action::None => TranslationAnswer {
-            refusal: 0,
-            action: 0,
-            code: 0,
-        },
-        Action::Close(code) => TranslationAnswer {
-            refusal: 0,
-            action: 1,
-            code: code.0,
-        },
-        Action::StreamError(code) => TranslationAnswer {
-            refusal: 0,
-            action: 2,
-            code: code.0,
-        },
-        Action::ConnectionError(code) => TranslationAnswer {
-            refusal: 0,
-            action: 3,
-            code: code.0,
-        },
+    let (action, code) = match action {
+        None => (0, 0),
+        Some(Action::Close(code)) => (1, code.0),
+        Some(Action::StreamError(code)) => (2, code.0),
+        Some(Action::ConnectionError(code)) => (3, code.0),
+    };
+    TranslationAnswer {
+        refusal: 0,
+        action,
+        code,
     }
 }

@@ -3,7 +3,9 @@ ghost use Rattle.std.specs.Prelude.{◌≡◌};
 ghost use Rattle.answers.specs.OneShot.{ending_number, listing_answer};
 
 use crate::numbers::refusal_number;
-use one_shot_listing::{Ending, Listed};
+use capsule::reader::Ending;
+use one_shot_listing::Counted;
+use refusals::Refusal;
 
 // end: 1 clean, 2 truncated
 #[repr(C)]
@@ -15,29 +17,28 @@ pub struct ListingAnswer {
     pub end: u64,
 }
 
-pub fn listing_answer(listed: Listed) -> ListingAnswer
+#[tactic(auto, unfolding(crate::specs::OneShot::listing_answer))]
+pub fn listing_answer(listed: Result<Counted, Refusal>) -> ListingAnswer
     ensures { result ≡ listing_answer listed }
 {
     match listed {
-        Listed::Refused(why) => ListingAnswer {
+        Err(why) => ListingAnswer {
             refusal: refusal_number(why),
             capsules: 0,
             headers: 0,
             end: 0,
         },
-        Listed::Counted {
-            capsules,
-            headers,
-            ending,
-        } => ListingAnswer {
+        Ok(counted) => ListingAnswer {
             refusal: 0,
-            capsules: capsules as u64,
-            headers: headers as u64,
-            end: ending_number(ending),
+            capsules: counted.capsules as u64,
+            headers: counted.headers as u64,
+            end: ending_number(counted.ending),
         },
     }
 }
 
+#[tactic(auto, unfolding(crate::specs::OneShot::ending_number, crate::specs::Numbers::end_number))]
+// No From: the numbers are the C interface's, and From would have to stand in the crate of `Ending`.
 fn ending_number(ending: Ending) -> u64
     ensures { result ≡ ending_number ending }
 {

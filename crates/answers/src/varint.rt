@@ -3,9 +3,11 @@ ghost use Rattle.std.specs.Prelude.{◌≡◌};
 ghost use Rattle.answers.specs.Varint.{varint_answer, written_answer};
 
 use crate::numbers::refusal_number;
-use wire::varint::{Varint, Written};
+use refusals::Refusal;
+use wire::varint::Varint;
 
-// size 0: incomplete
+// size 0: incomplete. Each answer is a struct of the C interface, with the names that C reads, so each has a function
+// that makes it.
 #[repr(C)]
 #[derive(Clone, Copy)]
 pub struct VarintAnswer {
@@ -20,29 +22,31 @@ pub struct WrittenAnswer {
     pub written: u64,
 }
 
-pub fn written_answer(written: Written) -> WrittenAnswer
+#[tactic(auto, unfolding(crate::specs::Varint::written_answer))]
+pub fn written_answer(written: Result<usize, Refusal>) -> WrittenAnswer
     ensures { result ≡ written_answer written }
 {
     match written {
-        Written::Refused(why) => WrittenAnswer {
+        Err(why) => WrittenAnswer {
             refusal: refusal_number(why),
             written: 0,
         },
-        Written::Wrote(count) => WrittenAnswer {
+        Ok(count) => WrittenAnswer {
             refusal: 0,
             written: count as u64,
         },
     }
 }
 
-pub fn varint_answer(read: Varint) -> VarintAnswer
+#[tactic(auto, unfolding(crate::specs::Varint::varint_answer))]
+pub fn varint_answer(read: Option<Varint>) -> VarintAnswer
     ensures { result ≡ varint_answer read }
 {
     match read {
-        Varint::Incomplete => VarintAnswer { value: 0, size: 0 },
-        Varint::Whole { value, size } => VarintAnswer {
-            value: value,
-            size: size as u64,
+        None => VarintAnswer { value: 0, size: 0 },
+        Some(read) => VarintAnswer {
+            value: read.value,
+            size: read.size as u64,
         },
     }
 }

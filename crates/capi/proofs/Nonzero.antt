@@ -1,6 +1,8 @@
 -- No refusal has number 0 (specs/Claims.antt): no call's list of refusals (crate refusal_orders) has it. Assumes nothing.
+use Rattle.std.specs.Prelude.{Option}
+use Rattle.wire.specs.declared.units.Quarter.{Quarter}
 use Rattle.walks.proofs.Words.{ℕ, suc, List, Bool, true, false, cond, ◌&&◌, not, [], ◌∷◌, ◌≡◌, refl, ap, ◌∙◌, inl, inr, length, leb, eqb}
-use Rattle.capi.proofs.Terms.{Refusal, refusal, Order, First, Refuses, Writing, refuses, write_at, QuarterOf, parted, all_of, well_formed, entry_bytes, value_bytes, entry_size, is_whole, entries_in, id_fits, route_advertisement, write_of, write_value, write_addresses, zero_one, varint-writing, reader_opening_lem, feeding, closing, looking, listing, translating, field_reading, stream-opening, side_closing, stream_finding, judging, datagram_writing_lem, datagram_header-writing, capsule-writing, frame-writing, frame-header-writing, address-writing, quarter_answer, Numbered, WritingNumbered, NumberedRefusals}
+use Rattle.capi.proofs.Terms.{Refusal, refusal, Order, First, Refuses, Writing, refuses, write_at, parted, all_of, well_formed, entry_bytes, value_bytes, entry_size, is_whole, entries_in, id_fits, route_advertisement, write_of, write_value, write_addresses, zero_one, varint-writing, reader_opening_lem, feeding, closing, looking, listing, translating, field_reading, stream-opening, side_closing, stream_finding, judging, datagram_writing_lem, datagram_header-writing, capsule-writing, frame-writing, frame-header-writing, address-writing, quarter_answer, Numbered, WritingNumbered, NumberedRefusals}
 
 abbrev no_zero : Order → Bool
 no_zero [] = true
@@ -38,7 +40,7 @@ numbered_refusals = record {
   writes-varint = λ n out place. numbered _ (varint-writing n out place) refl;
   opens-stream = λ t id. numbered _ (stream-opening t id) refl;
   closes_side = λ t id side. numbered _ (side_closing t id side) refl;
-  quarters = λ id e z. zero_one (cc (ap (λ (q : QuarterOf). (quarter_answer q).refusal) e, z));
+  quarters = λ id e z. zero_one (cc (ap (λ (q : Option Quarter). (quarter_answer q).refusal) e, z));
   judges = λ t streams limit frame. numbered _ (judging t streams limit frame) refl;
   writes-capsule = λ t id payload out place. numbered _ (capsule-writing t id payload out place) refl;
   writes-frame = λ t id ours peers path payload out place. numbered _ (frame-writing t id ours peers path payload out place) refl;

@@ -1,7 +1,8 @@
 -- Payloads and writers (specs/Claims.antt). Assumes nothing.
+use Rattle.std.specs.Prelude.{Option, Some, None, Result, Ok, Err}
+use Rattle.refusals.specs.declared.Refusal.{Refusal}
 use Rattle.walks.proofs.Words.{ℕ, ◌+◌, ◌-◌, ◌≤◌, ◌≡◌, refl, Bool, ◌&&◌, List, [], arith, length, take, drop, length-drop, take_all}
-use Rattle.capi.proofs.Terms.{number_too_large, malformed_to_write, StreamId, Quarter, Varint, Incomplete, Whole, Written, Wrote, read_varint, Writing, Leaves, reads, refuses_leaves, if_leaves, at_leaves, varint_leaves, Judged, is_delivered, if_delivered, after_quarter, judged_of, payload_of, writers_leave, route, all_of, well_formed, entry_bytes, range_bytes, value_bytes, entry_size, range_size, is_whole, entries_in, ranges_in, id_fits, capsule_of, write_value, write_addresses, write_routes, written_answer, wrote_by, delivered_answer, judged_answer, PayloadPart, RefusalLeaves, RefusedWriteLeaves}
-use Rattle.wire.specs.declared.varint.Written.TheVariants.{Refused}
+use Rattle.capi.proofs.Terms.{number_too_large, malformed_to_write, StreamId, Quarter, Varint, read_varint, Writing, Leaves, reads, refuses_leaves, if_leaves, at_leaves, varint_leaves, Judged, is_delivered, if_delivered, after_quarter, judged_of, payload_of, writers_leave, route, all_of, well_formed, entry_bytes, range_bytes, value_bytes, entry_size, range_size, is_whole, entries_in, ranges_in, id_fits, capsule_of, write_value, write_addresses, write_routes, written_answer, wrote_by, delivered_answer, judged_answer, PayloadPart, RefusalLeaves, RefusedWriteLeaves}
 use Rattle.judging.specs.declared.judge.Judged.TheVariants as judged
 
 -- ---- the payload's part of the frame
@@ -10,24 +11,24 @@ module _ (frame : List ℕ) where
   abbrev Part : ℕ → ℕ → List ℕ → Type 0
   Part start n payload = (start + n ≤ length frame) × (take n (drop start frame) ≡ payload)
 
-  part_read : (q : Quarter) (place : ℕ) (v : Varint) → read_varint frame ≡ v → let a = delivered_answer q place frame v in Part a.start a.length (after_quarter v frame)
+  part_read : (q : Quarter) (place : ℕ) (v : Option Varint) → read_varint frame ≡ v → let a = delivered_answer q place frame v in Part a.start a.length (after_quarter v frame)
   unfolding delivered_answer after_quarter
-  part_read q place Incomplete e = (omega arith, refl)
-  part_read q place (Whole n size) e =
-      let fits : size ≤ length frame = (reads frame n size e).fits in
-      (omega arith, take_all (length frame - size) (drop size frame) (omega (arith, length-drop size frame)))
+  part_read q place None e = (omega arith, refl)
+  part_read q place (Some read) e =
+      let fits : read.size ≤ length frame = (reads frame read.value read.size e).fits in
+      (omega arith, take_all (length frame - read.size) (drop read.size frame) (omega (arith, length-drop read.size frame)))
 
-  part_judged : (j : Judged) → let a = judged_answer frame j in Part a.start a.length (if_delivered j (after_quarter (read_varint frame) frame))
+  part_judged : (j : Result Judged Refusal) → let a = judged_answer frame j in Part a.start a.length (if_delivered j (after_quarter (read_varint frame) frame))
   unfolding judged_answer if_delivered is_delivered
-  part_judged (judged.Refused why) = (omega arith, refl)
-  part_judged judged.ShortFrame = (omega arith, refl)
-  part_judged (judged.QuarterTooLarge q) = (omega arith, refl)
-  part_judged (judged.BeyondLimit q) = (omega arith, refl)
-  part_judged (judged.NoStream q) = (omega arith, refl)
-  part_judged (judged.ReceiveClosed q place) = (omega arith, refl)
-  part_judged (judged.NoSemantics q place) = (omega arith, refl)
-  part_judged (judged.TooLong q place) = (omega arith, refl)
-  part_judged (judged.Delivered q place) = part_read q place (read_varint frame) refl
+  part_judged (Err why) = (omega arith, refl)
+  part_judged (Ok judged.ShortFrame) = (omega arith, refl)
+  part_judged (Ok (judged.QuarterTooLarge q)) = (omega arith, refl)
+  part_judged (Ok (judged.BeyondLimit q)) = (omega arith, refl)
+  part_judged (Ok (judged.NoStream q)) = (omega arith, refl)
+  part_judged (Ok (judged.ReceiveClosed q place)) = (omega arith, refl)
+  part_judged (Ok (judged.NoSemantics q place)) = (omega arith, refl)
+  part_judged (Ok (judged.TooLong q place)) = (omega arith, refl)
+  part_judged (Ok (judged.Delivered q place)) = part_read q place (read_varint frame) refl
 
 pub payload_part : PayloadPart
 unfolding payload_of
@@ -39,9 +40,9 @@ leaves : {bytes out : List ℕ} {place : ℕ} {w : Writing} → Leaves bytes out
 unfolding wrote_by
 leaves {out = out} {w = w} l = go w.answer refl
   where
-    go : (x : Written) → w.answer ≡ x → ((written_answer x).refusal ≡ 0 → ⊥) → w.output ≡ out
-    go (Refused why) e n = l.refused why e
-    go (Wrote count) e n = absurd (n (unfold written_answer in refl))
+    go : (x : Result ℕ Refusal) → w.answer ≡ x → ((written_answer x).refusal ≡ 0 → ⊥) → w.output ≡ out
+    go (Err why) e n = l.refused why e
+    go (Ok count) e n = absurd (n (unfold written_answer in refl))
 
 module _ (out : List ℕ) (place : ℕ) where
   value_leaves : (whole : Bool) (t : ℕ) (v : List ℕ) → Leaves (capsule_of t v) out place (write_value whole t v out place)

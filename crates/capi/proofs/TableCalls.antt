@@ -1,23 +1,23 @@
 -- Calls on a table (specs/Claims.antt), from the laws of the crate streams. Assumes nothing.
+use Rattle.std.specs.Prelude.{Result, Ok, Err}
+use Rattle.refusals.specs.declared.Refusal.{Refusal}
 use Rattle.walks.proofs.Words.{◌↔◌, eqb-true, ◌≡◌, refl, ℕ, Bool, true, false, cond, not, eqb, le-leb, lt-leb}
-use Rattle.capi.proofs.Terms.{StreamId, Side, Receive, Send, Endpoint, Intermediary, zero_one, StreamOpened, SideClosed, Table, opening_of, closing_of, table_opened, table_closed, stays_good, flag_of, role_of, side_of, status_of, wrote_by, opened_answer, stream_id_of, open_table, close_table, TableStaysGood, TableKept, RefusedTableLeaves, WrittenKept, NumbersRead}
-use Rattle.stream_records.specs.declared.answers.StreamOpened.TheVariants as opening
-use Rattle.stream_records.specs.declared.answers.SideClosed.TheVariants as closing
+use Rattle.capi.proofs.Terms.{StreamId, Side, Receive, Send, Endpoint, Intermediary, zero_one, SideClosed, Table, opening_of, closing_of, table_opened, table_closed, stays_good, flag_of, role_of, side_of, status_of, wrote_by, opened_answer, stream_id_of, open_table, close_table, TableStaysGood, TableKept, RefusedTableLeaves, WrittenKept, NumbersRead}
 use Rattle.stream_answers.specs.Table.{closed_answer}
 
 pub table_stays_good : TableStaysGood
 unfolding open_table close_table
 table_stays_good t id x good = let g = stays_good t (stream_id_of id) good in (g.0 (flag_of x), g.1 (side_of x))
 
-open_leaves : (t : Table) (id : StreamId) (semantics : Bool) (o : StreamOpened) → ((opened_answer o).refusal ≡ 0 → ⊥) → table_opened t id semantics o ≡ t
+open_leaves : (t : Table) (id : StreamId) (semantics : Bool) (o : Result ℕ Refusal) → ((opened_answer o).refusal ≡ 0 → ⊥) → table_opened t id semantics o ≡ t
 unfolding opened_answer table_opened
-open_leaves t id semantics (opening.Refused why) n = refl
-open_leaves t id semantics (opening.Opened i) n = absurd (n refl)
+open_leaves t id semantics (Err why) n = refl
+open_leaves t id semantics (Ok i) n = absurd (n refl)
 
-close_leaves : (t : Table) (side : Side) (c : SideClosed) → ((closed_answer c).refusal ≡ 0 → ⊥) → table_closed t side c ≡ t
+close_leaves : (t : Table) (side : Side) (c : Result SideClosed Refusal) → ((closed_answer c).refusal ≡ 0 → ⊥) → table_closed t side c ≡ t
 unfolding closed_answer table_closed
-close_leaves t side (closing.Refused why) n = refl
-close_leaves t side (closing.Closed i freed) n = absurd (n refl)
+close_leaves t side (Err why) n = refl
+close_leaves t side (Ok side') n = absurd (n refl)
 
 pub refused-table_leaves : RefusedTableLeaves
 unfolding open_table close_table

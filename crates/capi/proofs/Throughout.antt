@@ -1,5 +1,5 @@
 -- Lists of calls on a reader in words (specs/Claims.antt). Assumes nothing.
-use Rattle.walks.proofs.Words.{◌≡◌, refl, sym, ap, subst, ◌∙◌, none, List, [], ◌∷◌, ℕ}
+use Rattle.walks.proofs.Words.{◌≡◌, refl, sym, ap, subst, ◌∙◌, None, List, [], ◌∷◌, ℕ}
 use Rattle.capi.proofs.Terms.{Reader, feed, close, Reply, run, new_book, book_call, of_book, opening, fresh, feed_of, close_of, reader_call, HandedOn, open_fresh, demand_3, role_of, flag_of, words_of, feed_words, close_words, fed_in, closed_in, words_call, run_words, numbers_of, run_numbers, Throughout, Demand3InWords}
 use Rattle.capi.proofs.Keeping.{open_kept, reader_kept}
 
@@ -20,6 +20,6 @@ demand_3_in_words ws role limit draft addresses cs z h l =
     let op = opening (role_of role) limit (flag_of draft) (flag_of addresses) in
     let k = open_kept ws role limit draft addresses z in
     let f : k.0 ≡ fresh op = (open_fresh (role_of role) limit (flag_of draft) (flag_of addresses) k.0 k.1).1 in
-    let d = demand_3 (role_of role) limit (flag_of draft) (flag_of addresses) k.0 k.1 cs h (subst (λ (x : Reader). HandedOn none (new_book op) x cs) (sym f) l) in
+    let d = demand_3 (role_of role) limit (flag_of draft) (flag_of addresses) k.0 k.1 cs h (subst (λ (x : Reader). HandedOn None (new_book op) x cs) (sym f) l) in
     let state : (run reader_call k.0 cs).0 ≡ of_book (run book_call (new_book op) cs).0 = ap (λ (x : Reader × List Reply). x.0) d in
     ap (λ (w : List ℕ). run_words w cs) k.2 ∙ throughout k.0 k.3 cs h ∙ (λ i. (words_of (state i), run_numbers (f i) cs))

@@ -1,8 +1,12 @@
 -- The numbers of include/maruzhenu.h: how arguments are read, and what answers say. One statement carries them: `Cases`, proved in proofs/Cases.antt.
-use Rattle.std.specs.Prelude.{ℕ, ◌+◌, ◌-◌, ◌^◌, ◌≡◌, Bool, true, false, List, [], ◌∷◌, ◌++◌, map, replicate}
+use Rattle.refusals.specs.declared.Refusal.{Refusal}
+use Rattle.capsule.specs.declared.reader.Ending.TheVariants.{Clean, Truncated}
+use Rattle.capsule.specs.Reader.{taking}
+use Rattle.one_shot_listing.specs.Listing.{count_of}
+use Rattle.look.specs.declared.Sight.{Sight}
+use Rattle.short_forms.specs.Short.{varint_of}
+use Rattle.std.specs.Prelude.{ℕ, ◌+◌, ◌-◌, ◌^◌, ◌≡◌, Bool, true, false, List, [], ◌∷◌, ◌++◌, map, replicate, Some, None, Result, Ok, Err}
 use Rattle.refusals.specs.Numbers.{refusal}
-use Rattle.wire.specs.declared.varint.Varint.TheVariants as read
-use Rattle.wire.specs.declared.varint.Written.TheVariants as written
 use Rattle.wire.specs.Partial.{partial}
 use Rattle.wire.specs.Units.{quarter_of, stream_of}
 use Rattle.opening.specs.declared.Role.{Role}
@@ -11,34 +15,23 @@ use Rattle.opening.specs.declared.Report.TheVariants.{Delivered, Dropped, Skippe
 use Rattle.planning.specs.declared.Phase.{Phase}
 use Rattle.planning.specs.declared.Phase.TheVariants.{InType, InLength, InValue}
 use Rattle.capsule.specs.declared.reader.Reader.{Reader}
-use Rattle.planning.specs.declared.Ended.TheVariants.{Nothing, Capsule}
-use Rattle.capsule.specs.declared.reader.FeedAnswer.TheVariants as fed_as
-use Rattle.capsule.specs.declared.reader.CloseAnswer.TheVariants as closed_as
 use Rattle.capsule.specs.Calls.{lent}
 use Rattle.capsule.specs.Reader.{opening}
 use Rattle.look.specs.declared.Buffer.TheVariants.{Neither, Gathering, Addresses}
 use Rattle.look.specs.declared.Place.{Place}
 use Rattle.look.specs.declared.Place.TheVariants as place
-use Rattle.look.specs.declared.Looked.{Looked}
-use Rattle.look.specs.declared.Looked.TheVariants as looked
 use Rattle.stream_records.specs.declared.record.Side.TheVariants.{Receive, Send}
 use Rattle.stream_records.specs.declared.record.StreamRecord.{StreamRecord}
-use Rattle.stream_records.specs.declared.answers.Standing.TheVariants as standing
 use Rattle.stream_records.specs.Tables.{Table, standing_of}
 use Rattle.sending.specs.Sending.{put_capsule, put_capsule_header, write_frame_header}
 use Rattle.judging.specs.declared.judge.Judged.TheVariants as judged
 use Rattle.judging.specs.Judging.{quarter}
-use Rattle.one_shot_listing.specs.declared.Ending.TheVariants as ending
-use Rattle.one_shot_listing.specs.declared.Listed.TheVariants as listed
+use Rattle.capsule.specs.declared.reader.Ending.TheVariants as ending
 use Rattle.http_messages.specs.declared.messages.Message.TheVariants.{Request, Response}
-use Rattle.capsule_protocol.specs.declared.field.FieldValue.TheVariants as field
 use Rattle.http_errors.specs.declared.translation.Action.TheVariants as action
-use Rattle.http_errors.specs.declared.translation.Translation.TheVariants as translation
-use Rattle.address_cursor.specs.declared.Found.TheVariants as found
 use Rattle.address_cursor.specs.Handing.{next_address, next_range}
 use Rattle.answers.specs.declared.varint.VarintAnswer.{VarintAnswer}
 use Rattle.answers.specs.declared.varint.WrittenAnswer.{WrittenAnswer}
-use Rattle.reader_words.specs.declared.words.Loaded.TheVariants as loaded
 use Rattle.reader_answers.specs.declared.reader.FedAnswer.{FedAnswer}
 use Rattle.reader_answers.specs.declared.reader.ClosedAnswer.{ClosedAnswer}
 use Rattle.reader_answers.specs.declared.sight.LookAnswer.{LookAnswer}
@@ -130,8 +123,8 @@ marked role = 0x6d727a00 + role
 abbrev words : ℕ → ℕ → ℕ → ℕ → ℕ → ℕ → ℕ → ℕ → List ℕ
 words role limit draft phase a b c finished = marked role ∷ limit ∷ draft ∷ phase ∷ a ∷ b ∷ c ∷ finished ∷ []
 
-abbrev seen : Bool → Place → Looked
-seen finished at = looked.Seen (record { finished = finished; limit = 1200; place = at })
+abbrev seen : Bool → Place → Result Sight Refusal
+seen finished at = Ok (record { finished = finished; limit = 1200; place = at })
 
 abbrev nines : ℕ → List ℕ
 nines n = replicate n 9
@@ -175,7 +168,7 @@ abbrev header : ℕ → ℕ → ℕ → ℕ → Answered
 header peer path n place = wrote_by (write_frame_header streams (table.stream_id_of 256) 1 peer path n (nines 4) place)
 
 pub record SendingCases : Type 0 where
-  pub standings : map found_answer (standing.Refused (refusal 10) ∷ standing.At 0 ∷ standing.At 63 ∷ []) ≡ standing_so 10 0 ∷ standing_so 0 0 ∷ standing_so 0 63 ∷ []
+  pub standings : map found_answer (Err (refusal 10) ∷ Ok 0 ∷ Ok 63 ∷ []) ≡ standing_so 10 0 ∷ standing_so 0 0 ∷ standing_so 0 63 ∷ []
   -- at places 1 and 2; not there, no request stream; a bad table
   pub finds :
       Agree
@@ -211,20 +204,20 @@ pub record Cases : Type 0 where
   pub messages : message_of 0 204 ∷ message_of 1 204 ∷ message_of 2 65740 ∷ [] ≡ Request ∷ Response 204 ∷ Response 0 ∷ []
   pub bits : map bit_of (false ∷ true ∷ []) ≡ 0 ∷ 1 ∷ []
   -- varints
-  pub varints : map varint_answer (read.Incomplete ∷ read.Whole 37 2 ∷ []) ≡ varint 0 0 ∷ varint 37 2 ∷ []
+  pub varints : map varint_answer (None ∷ Some (varint_of 37 2) ∷ []) ≡ varint 0 0 ∷ varint 37 2 ∷ []
   pub writings :
-      map written_answer (written.Refused (refusal 5) ∷ written.Refused (refusal 26) ∷ written.Wrote 3 ∷ []) ≡ wrote_so 5 0 ∷ wrote_so 26 0 ∷ wrote_so 0 3 ∷ []
+      map written_answer (Err (refusal 5) ∷ Err (refusal 26) ∷ Ok 3 ∷ []) ≡ wrote_so 5 0 ∷ wrote_so 26 0 ∷ wrote_so 0 3 ∷ []
   -- feeding: refused; nothing ended, delivered, dropped, skipped, passed; an address capsule delivered, a malformed one
   pub feedings :
       map fed_answer
-      (fed_as.Refused (refusal 4)
-      ∷ fed_as.Took 7 6 Nothing
-      ∷ fed_as.Took 7 6 (Capsule (Delivered 5))
-      ∷ fed_as.Took 7 6 (Capsule (Dropped 5))
-      ∷ fed_as.Took 7 6 (Capsule (Skipped 23 5))
-      ∷ fed_as.Took 7 6 (Capsule (Passed 23 5))
-      ∷ fed_as.Took 7 6 (Capsule (AddressDelivered 3 5))
-      ∷ fed_as.Took 7 6 (Capsule (Malformed 3 5))
+      (Err (refusal 4)
+      ∷ Ok (taking 7 6 None)
+      ∷ Ok (taking 7 6 (Some (Delivered 5)))
+      ∷ Ok (taking 7 6 (Some (Dropped 5)))
+      ∷ Ok (taking 7 6 (Some (Skipped 23 5)))
+      ∷ Ok (taking 7 6 (Some (Passed 23 5)))
+      ∷ Ok (taking 7 6 (Some (AddressDelivered 3 5)))
+      ∷ Ok (taking 7 6 (Some (Malformed 3 5)))
       ∷ [])
       ≡ fed_so 4 0 0 0 0 0 0
       ∷ fed_so 0 7 6 0 0 0 0
@@ -236,7 +229,7 @@ pub record Cases : Type 0 where
       ∷ fed_so 0 7 6 6 3 5 7
       ∷ []
   pub closings :
-      map closed_answer (closed_as.Refused (refusal 2) ∷ closed_as.Clean ∷ closed_as.Truncated ∷ []) ≡ closed_so 2 0 0 ∷ closed_so 0 1 0 ∷ closed_so 0 2 1 ∷ []
+      map closed_answer (Err (refusal 2) ∷ (Ok Clean) ∷ (Ok Truncated) ∷ []) ≡ closed_so 2 0 0 ∷ closed_so 0 1 0 ∷ closed_so 0 2 1 ∷ []
   -- the two first words, and the words of a reader in each phase
   pub first-words : map role_word (Endpoint ∷ Intermediary ∷ []) ≡ 0x6d727a00 ∷ 0x6d727a01 ∷ []
   pub stored_forms :
@@ -261,7 +254,7 @@ pub record Cases : Type 0 where
       ∷ words 0 0 0 0 256 0 0 0
       ∷ words 0 0 0 1 5 256 0 0
       ∷ [])
-      ≡ replicate 10 loaded.Nothing
+      ≡ replicate 10 None
   pub opens :
       Agree
       ((open_words (nines 8) 1 65535 2 0, reader.opened 0 (words 1 65535 1 0 0 0 0 0))
@@ -291,7 +284,7 @@ pub record Cases : Type 0 where
   -- a look: refused; each field, and each buffer
   pub looks :
       map looked_answer
-      (looked.Refused (refusal 1)
+      (Err (refusal 1)
       ∷ seen false place.Between
       ∷ seen true place.InType
       ∷ seen false (place.InLength 23)
@@ -312,19 +305,19 @@ pub record Cases : Type 0 where
       map look_words (words 0 6 0 2 0 5 3 0 ∷ words 0 6 2 2 1 7 4 1 ∷ words 0 65536 0 0 0 0 0 0 ∷ zeros 8 ∷ [])
       ≡ look_so 0 0 6 3 0 5 3 2 1 ∷ look_so 0 1 6 3 1 7 4 3 2 ∷ look_so 1 0 0 0 0 0 0 0 0 ∷ look_so 1 0 0 0 0 0 0 0 0 ∷ []
   -- entries of a value: found, none at the end and behind it, malformed
-  pub founds : map found_number (found.End ∷ found.Entry ∷ found.Malformed ∷ []) ≡ 0 ∷ 1 ∷ 2 ∷ []
+  pub founds : map (found_number {A = ℕ}) (Ok None ∷ Ok (Some (record { entry = 0; next = cursor 0 })) ∷ Err (record {}) ∷ []) ≡ 0 ∷ 1 ∷ 2 ∷ []
   pub addresses :
-      map (λ n. address_found (next_address (an_address ++ (5 ∷ [])) (cursor n))) (0 ∷ 7 ∷ 8 ∷ 9 ∷ [])
+      map (λ n. address_found (cursor n) (next_address (an_address ++ (5 ∷ [])) (cursor n))) (0 ∷ 7 ∷ 8 ∷ 9 ∷ [])
       ≡ address_so 1 7 3 4 32 (10 ∷ 0 ∷ 0 ∷ 1 ∷ zeros 12) ∷ address_so 2 7 0 0 0 (zeros 16) ∷ address_so 0 8 0 0 0 (zeros 16) ∷ address_so 0 9 0 0 0 (zeros 16) ∷ []
   pub routes :
-      map (λ n. route_found (next_range (a_range ++ (5 ∷ [])) (cursor n))) (0 ∷ 10 ∷ 11 ∷ 12 ∷ [])
+      map (λ n. route_found (cursor n) (next_range (a_range ++ (5 ∷ [])) (cursor n))) (0 ∷ 10 ∷ 11 ∷ 12 ∷ [])
       ≡ route_so 1 10 4 17 (10 ∷ 0 ∷ 0 ∷ 1 ∷ zeros 12) (10 ∷ 0 ∷ 0 ∷ 9 ∷ zeros 12)
       ∷ route_so 2 10 0 0 (zeros 16) (zeros 16)
       ∷ route_so 0 11 0 0 (zeros 16) (zeros 16)
       ∷ route_so 0 12 0 0 (zeros 16) (zeros 16)
       ∷ []
   pub listings :
-      map listing_answer (listed.Refused (refusal 16) ∷ listed.Counted 4 9 ending.Clean ∷ listed.Counted 4 9 ending.Truncated ∷ [])
+      map listing_answer (Err (refusal 16) ∷ Ok (count_of 4 9 ending.Clean) ∷ Ok (count_of 4 9 ending.Truncated) ∷ [])
       ≡ listed_so 16 0 0 0 ∷ listed_so 0 4 9 1 ∷ listed_so 0 4 9 2 ∷ []
   -- stream IDs: the smallest and the largest of a request stream, others, and numbers that are none
   pub quarters :
@@ -351,15 +344,15 @@ pub record Cases : Type 0 where
   -- a refusal, and rules 1 to 8, of a frame whose quarter has two bytes
   pub judgements :
       map (judged_answer (0x40 ∷ 1 ∷ 7 ∷ 8 ∷ 9 ∷ []))
-      (judged.Refused (refusal 15)
-      ∷ judged.ShortFrame
-      ∷ judged.QuarterTooLarge (quarter 5)
-      ∷ judged.BeyondLimit (quarter 6)
-      ∷ judged.NoStream (quarter 7)
-      ∷ judged.ReceiveClosed (quarter 8) 1
-      ∷ judged.NoSemantics (quarter 9) 2
-      ∷ judged.TooLong (quarter 10) 3
-      ∷ judged.Delivered (quarter 11) 4
+      (Err (refusal 15)
+      ∷ (Ok judged.ShortFrame)
+      ∷ (Ok (judged.QuarterTooLarge (quarter 5)))
+      ∷ (Ok (judged.BeyondLimit (quarter 6)))
+      ∷ (Ok (judged.NoStream (quarter 7)))
+      ∷ (Ok (judged.ReceiveClosed (quarter 8) 1))
+      ∷ (Ok (judged.NoSemantics (quarter 9) 2))
+      ∷ (Ok (judged.TooLong (quarter 10) 3))
+      ∷ (Ok (judged.Delivered (quarter 11) 4))
       ∷ [])
       ≡ judged_so 15 0 0 0 0 0 0
       ∷ judged_so 0 1 0 0 0 0 3
@@ -373,13 +366,13 @@ pub record Cases : Type 0 where
       ∷ []
   pub sendings : SendingCases
   pub field_values :
-      map field_answer (field.Refused (refusal 19) ∷ field.InUse ∷ field.Absent ∷ []) ≡ field_said 19 0 ∷ field_said 0 1 ∷ field_said 0 0 ∷ []
+      map field_answer (Err (refusal 19) ∷ (Ok true) ∷ (Ok false) ∷ []) ≡ field_said 19 0 ∷ field_said 0 1 ∷ field_said 0 0 ∷ []
   pub translations :
       map translation_answer
-      (translation.Refused (refusal 17)
-      ∷ translation.Becomes action.None
-      ∷ translation.Becomes (action.Close (record { 0 = 0 }))
-      ∷ translation.Becomes (action.StreamError (record { 0 = 0x010e }))
-      ∷ translation.Becomes (action.ConnectionError (record { 0 = 0x33 }))
+      (Err (refusal 17)
+      ∷ Ok None
+      ∷ Ok (Some (action.Close (record { 0 = 0 })))
+      ∷ Ok (Some (action.StreamError (record { 0 = 0x010e })))
+      ∷ Ok (Some (action.ConnectionError (record { 0 = 0x33 })))
       ∷ [])
       ≡ translated_so 17 0 0 ∷ translated_so 0 0 0 ∷ translated_so 0 1 0 ∷ translated_so 0 2 0x010e ∷ translated_so 0 3 0x33 ∷ []

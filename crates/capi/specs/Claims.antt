@@ -1,21 +1,15 @@
 -- What holds of the calls. Each claim is a type here, and is proved in proofs/ under its name in lower case with dashes.
-use Rattle.std.specs.Prelude.{ℕ, ◌+◌, ◌≤◌, ◌<◌, ◌≡◌, ◌↔◌, Bool, true, false, cond, List, [], ◌∷◌, length, replicate, take, drop, eqb}
-use Rattle.std.proofs.Math.Option.{none}
+use Rattle.capsule.specs.declared.reader.Advance.{Advance}
+use Rattle.std.specs.Prelude.{ℕ, ◌+◌, ◌≤◌, ◌<◌, ◌≡◌, ◌↔◌, Bool, true, false, cond, List, [], ◌∷◌, length, replicate, take, drop, eqb, None, Result, Ok, Err}
 use Rattle.refusals.specs.declared.Refusal.{Refusal}
 use Rattle.refusals.specs.Numbers.{refusal}
 use Rattle.wire.specs.declared.units.StreamId.{StreamId}
-use Rattle.wire.specs.declared.units.QuarterOf.TheVariants as quarter_as
-use Rattle.wire.specs.declared.varint.Written.TheVariants as written_as
 use Rattle.wire.specs.Bytes.{Bytes}
 use Rattle.wire.specs.Units.{quarter_of}
 use Rattle.wire.specs.Writing.{Writing, write_varint}
 use Rattle.opening.specs.declared.Role.{Role}
 use Rattle.opening.specs.declared.Role.TheVariants.{Endpoint}
 use Rattle.capsule.specs.declared.reader.Reader.{Reader}
-use Rattle.capsule.specs.declared.reader.Opened.TheVariants as opened_as
-use Rattle.capsule.specs.declared.reader.FeedAnswer.{FeedAnswer}
-use Rattle.capsule.specs.declared.reader.FeedAnswer.TheVariants as fed_as
-use Rattle.capsule.specs.declared.reader.CloseAnswer.TheVariants as closed_as
 use Rattle.capsule.specs.Calls.{Lent, Call, feed, close, run}
 use Rattle.capsule.specs.Book.{new_book, book_call}
 use Rattle.capsule.specs.State.{of_book}
@@ -23,25 +17,16 @@ use Rattle.capsule.specs.Reader.{opening, fresh, is_makeable, open_of, feed_of, 
 use Rattle.capsule_laws.specs.Claims.{AllBytes, HandedOn}
 use Rattle.stream_records.specs.declared.record.Side.{Side}
 use Rattle.stream_records.specs.declared.record.Side.TheVariants.{Receive}
-use Rattle.stream_records.specs.declared.answers.StreamOpened.TheVariants as opening_as
-use Rattle.stream_records.specs.declared.answers.SideClosed.TheVariants as closing_as
-use Rattle.stream_records.specs.declared.answers.Standing.TheVariants as standing_as
 use Rattle.stream_records.specs.Tables.{Table, is_bad, opening_of, closing_of, standing_of, table_opened, table_closed}
-use Rattle.judging.specs.declared.judge.Judged.TheVariants as judged
 use Rattle.judging.specs.Judging.{judged_of, payload_of}
 use Rattle.sending.specs.Sending.{put_capsule, put_capsule_header, write_capsule, write_frame, write_frame_header}
 use Rattle.address_cursor.specs.Handing.{next_address, next_range}
 use Rattle.address_writer.specs.Writer.{write_addresses, write_routes}
 use Rattle.look.specs.declared.Place.{Place}
-use Rattle.look.specs.declared.Looked.TheVariants as looked_as
 use Rattle.look.specs.Looking.{look_of}
-use Rattle.one_shot_listing.specs.declared.Listed.TheVariants as listed
 use Rattle.one_shot_listing.specs.Listing.{listing_of}
-use Rattle.capsule_protocol.specs.declared.field.FieldValue.TheVariants as field
 use Rattle.capsule_protocol.specs.Field.{field_of}
-use Rattle.http_errors.specs.declared.translation.Translation.TheVariants as translation
 use Rattle.http_errors.specs.Translation.{translated}
-use Rattle.reader_words.specs.declared.words.Loaded.TheVariants.{Nothing}
 use Rattle.reader_answers.specs.declared.reader.FedAnswer.{FedAnswer}
 use Rattle.reader_answers.specs.declared.reader.ClosedAnswer.{ClosedAnswer}
 use Rattle.reader_words.specs.Numbers.{role_of, flag_of, bit_of}
@@ -76,17 +61,17 @@ abbrev pub zero_words : List ℕ
 zero_words = replicate 8 0
 
 pub record ZeroWordsRefused : Type 0 where
-  pub no_reader : reader_in zero_words ≡ Nothing
+  pub no_reader : reader_in zero_words ≡ None
   pub feeds : (p : List ℕ) (b : Lent) → feed_words zero_words p b ≡ fed (fed_refused (refusal 1)) zero_words b
-  pub closes : close_words zero_words ≡ closed (closed_answer (closed_as.Refused (refusal 1))) zero_words
-  pub looks : look_words zero_words ≡ looked_answer (looked_as.Refused (refusal 1))
+  pub closes : close_words zero_words ≡ closed (closed_answer (Err (refusal 1))) zero_words
+  pub looks : look_words zero_words ≡ looked_answer (Err (refusal 1))
 
 -- the next call finds the reader that was opened
 abbrev pub OpenKept : Type 0
 OpenKept =
     (ws : List ℕ) (role limit draft addresses : ℕ)
     → (open_words ws role limit draft addresses).answer ≡ 0
-    → (r : Reader) × (open_of (role_of role) limit (flag_of draft) (flag_of addresses) ≡ opened_as.Ready r) × ((open_words ws role limit draft addresses).words ≡ words_of r) × (is_makeable r ≡ true)
+    → (r : Reader) × (open_of (role_of role) limit (flag_of draft) (flag_of addresses) ≡ Ok r) × ((open_words ws role limit draft addresses).words ≡ words_of r) × (is_makeable r ≡ true)
 
 -- on the words of a reader that can be made, a call is that of the reader, and the words afterwards are those of its state, which can be made again
 pub record FeedKept (r : Reader) (p : List ℕ) (b : Lent) : Type 0 where
@@ -143,12 +128,12 @@ Demand3InWords =
     → let op = opening (role_of role) limit (flag_of draft) (flag_of addresses) in
     (open_words ws role limit draft addresses).answer ≡ 0
     → AllBytes cs
-    → HandedOn none (new_book op) (fresh op) cs
+    → HandedOn None (new_book op) (fresh op) cs
     → run_words (open_words ws role limit draft addresses).words cs ≡ (words_of (of_book (run book_call (new_book op) cs).0), run_numbers (fresh op) cs)
 
 -- a malformed capsule (report 6) is error 7, and no other answer of a feeding is an error (proofs/Told.antt)
 abbrev pub MalformedError : Type 0
-MalformedError = (a : FeedAnswer) → (fed_answer a).error ≡ cond (eqb (fed_answer a).report 6) 7 0
+MalformedError = (a : Result Advance Refusal) → (fed_answer a).error ≡ cond (eqb (fed_answer a).report 6) 7 0
 
 -- ---- entries handed out (proofs/Entries.antt)
 
@@ -159,8 +144,8 @@ GoesOn v at found next = (found ≡ 1 → (at < next) × (next ≤ length v)) ×
 abbrev pub EntriesGoOn : Type 0
 EntriesGoOn =
     (v : List ℕ) (at : ℕ)
-    → (let a = address_found (next_address v (cursor at)) in GoesOn v at a.found a.next)
-    × (let r = route_found (next_range v (cursor at)) in GoesOn v at r.found r.next)
+    → (let a = address_found (cursor at) (next_address v (cursor at)) in GoesOn v at a.found a.next)
+    × (let r = route_found (cursor at) (next_range v (cursor at)) in GoesOn v at r.found r.next)
 
 -- ---- calls on a table (proofs/TableCalls.antt)
 
@@ -230,26 +215,26 @@ abbrev pub Numbered : {A : Type 0} → (Refusal → A) → A → Type 0
 Numbered refused a = (why : Refusal) → a ≡ refused why → NotZero why
 
 abbrev pub WritingNumbered : Writing → Type 0
-WritingNumbered w = Numbered written_as.Refused w.answer
+WritingNumbered w = Numbered Err w.answer
 
 pub record NumberedRefusals : Type 0 where
-  pub opens : (role : Role) (limit : ℕ) (draft addresses : Bool) → Numbered opened_as.Refused (open_of role limit draft addresses)
-  pub feeds : (r : Reader) (p : List ℕ) (b : Lent) → Numbered fed_as.Refused (feed_of r p b).answer
-  pub closes : (r : Reader) → Numbered closed_as.Refused (close_of r).answer
-  pub looks : (r : Reader) → Numbered looked_as.Refused (look_of r)
-  pub lists : (s : List ℕ) → Numbered listed.Refused (listing_of s)
+  pub opens : (role : Role) (limit : ℕ) (draft addresses : Bool) → Numbered Err (open_of role limit draft addresses)
+  pub feeds : (r : Reader) (p : List ℕ) (b : Lent) → Numbered Err (feed_of r p b).answer
+  pub closes : (r : Reader) → Numbered Err (close_of r).answer
+  pub looks : (r : Reader) → Numbered Err (look_of r)
+  pub lists : (s : List ℕ) → Numbered Err (listing_of s)
   pub writes-varint : (n : ℕ) (out : List ℕ) (place : ℕ) → WritingNumbered (write_varint n out place)
-  pub opens-stream : (t : Table) (id : StreamId) → Numbered opening_as.Refused (opening_of t id)
-  pub closes_side : (t : Table) (id : StreamId) (side : Side) → Numbered closing_as.Refused (closing_of t id side)
-  pub quarters : (id : StreamId) → quarter_of id ≡ quarter_as.NotRequestStream → (quarter_answer (quarter_of id)).refusal ≡ 0 → ⊥
-  pub judges : (t : Table) (streams limit : ℕ) (frame : List ℕ) → Numbered judged.Refused (judged_of t streams limit frame)
+  pub opens-stream : (t : Table) (id : StreamId) → Numbered Err (opening_of t id)
+  pub closes_side : (t : Table) (id : StreamId) (side : Side) → Numbered Err (closing_of t id side)
+  pub quarters : (id : StreamId) → quarter_of id ≡ None → (quarter_answer (quarter_of id)).refusal ≡ 0 → ⊥
+  pub judges : (t : Table) (streams limit : ℕ) (frame : List ℕ) → Numbered Err (judged_of t streams limit frame)
   pub writes-capsule : (t : Table) (id : StreamId) (payload out : List ℕ) (place : ℕ) → WritingNumbered (write_capsule t id payload out place)
   pub writes-frame : (t : Table) (id : StreamId) (ours peers path : ℕ) (payload out : List ℕ) (place : ℕ) → WritingNumbered (write_frame t id ours peers path payload out place)
-  pub finds_stream : (t : Table) (id : StreamId) → Numbered standing_as.Refused (standing_of t id)
+  pub finds_stream : (t : Table) (id : StreamId) → Numbered Err (standing_of t id)
   pub writes-frame-header : (t : Table) (id : StreamId) (ours peers path n : ℕ) (out : List ℕ) (place : ℕ) → WritingNumbered (write_frame_header t id ours peers path n out place)
   pub writes_datagram : (payload out : List ℕ) (place : ℕ) → WritingNumbered (put_capsule payload out place)
   pub writes_datagram_header : (n : ℕ) (out : List ℕ) (place : ℕ) → WritingNumbered (put_capsule_header n out place)
   pub writes-addresses : (t : ℕ) (row out : List ℕ) (place : ℕ) → WritingNumbered (write_addresses t row out place)
   pub writes_routes : (row out : List ℕ) (place : ℕ) → WritingNumbered (write_routes row out place)
-  pub reads_field : (value : List ℕ) → Numbered field.Refused (field_of value)
-  pub translates : (error version : ℕ) → Numbered translation.Refused (translated error version)
+  pub reads_field : (value : List ℕ) → Numbered Err (field_of value)
+  pub translates : (error version : ℕ) → Numbered Err (translated error version)

@@ -14,6 +14,8 @@ use answers::address_capsules::{AddressFound, RouteFound, address_found, route_f
 use answers::varint::{WrittenAnswer, written_answer};
 use reader_words::numbers::bit_of;
 
+// What looks alike here is alike for C alone: each exported name is a function, with the parameters of the header in
+// its order.
 #[unsafe(no_mangle)]
 pub extern "C" fn mrz_address_value_good(ctype: u64, value: &[u8]) -> u64
     ensures { result ≡ bit_of (well_formed ctype value.now) }
@@ -23,16 +25,18 @@ pub extern "C" fn mrz_address_value_good(ctype: u64, value: &[u8]) -> u64
 
 #[unsafe(no_mangle)]
 pub extern "C" fn mrz_address_next(value: &[u8], at: u64) -> AddressFound
-    ensures { result ≡ address_found (next_address value.now (cursor at)) }
+    ensures { result ≡ address_found (cursor at) (next_address value.now (cursor at)) }
 {
-    address_found(next_address(value, Cursor { at: at as usize }))
+    let cursor = Cursor { at: at as usize };
+    address_found(cursor, next_address(value, cursor))
 }
 
 #[unsafe(no_mangle)]
 pub extern "C" fn mrz_route_next(value: &[u8], at: u64) -> RouteFound
-    ensures { result ≡ route_found (next_range value.now (cursor at)) }
+    ensures { result ≡ route_found (cursor at) (next_range value.now (cursor at)) }
 {
-    route_found(next_range(value, Cursor { at: at as usize }))
+    let cursor = Cursor { at: at as usize };
+    route_found(cursor, next_range(value, cursor))
 }
 
 #[unsafe(no_mangle)]

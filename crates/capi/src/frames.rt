@@ -9,7 +9,7 @@ ghost use Rattle.stream_answers.specs.Frames.{judged_answer};
 use answers::varint::{WrittenAnswer, written_answer};
 use datagram::judge::judge;
 use datagram::write::{write_capsule, write_frame, write_frame_header};
-use sending::write::{write_datagram, write_datagram_header};
+use sending::write::{FrameTerms, write_datagram, write_datagram_header};
 use stream_answers::frames::{JudgedAnswer, judged_answer};
 use stream_records::record::StreamRecord;
 use wire::units::StreamId;
@@ -22,15 +22,8 @@ pub struct Limits {
     pub datagram_limit: u64,
 }
 
-// What a frame is sent by: both settings, and the path size.
-#[repr(C)]
-#[derive(Clone, Copy)]
-pub struct FrameTerms {
-    pub our_setting: u64,
-    pub peer_setting: u64,
-    pub path_size: u64,
-}
-
+// What looks alike here is alike for C alone: each exported name is a function, with the parameters of the header in
+// its order.
 #[unsafe(no_mangle)]
 pub extern "C" fn mrz_judge(streams: &[StreamRecord], limits: Limits, frame: &[u8]) -> JudgedAnswer
     ensures { result ≡ judged_answer frame.now (judged_of streams.now limits.stream_limit limits.datagram_limit frame.now) }
@@ -68,9 +61,7 @@ pub extern "C" fn mrz_write_frame(
     written_answer(write_frame(
         streams,
         StreamId(stream_id),
-        terms.our_setting,
-        terms.peer_setting,
-        terms.path_size,
+        terms,
         payload,
         out,
         place as usize,
@@ -92,9 +83,7 @@ pub extern "C" fn mrz_write_frame_header(
     written_answer(write_frame_header(
         streams,
         StreamId(stream_id),
-        terms.our_setting,
-        terms.peer_setting,
-        terms.path_size,
+        terms,
         payload_length,
         out,
         place as usize,

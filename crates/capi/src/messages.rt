@@ -15,15 +15,14 @@ use answers::numbers::{error_number, status_of};
 use capsule_protocol::field::read_field;
 use http_errors::translation::translate;
 use http_messages::messages::{request_malformed, response_malformed};
-use http_messages::settings::received;
+use http_messages::settings::{received, setting_error};
 use reader_words::numbers::{bit_of, flag_of};
 
 #[unsafe(no_mangle)]
 pub extern "C" fn mrz_setting_error(value: u64, stored: u64) -> u64
     ensures { result ≡ error_number (setting_error (received_setting value stored)) }
 {
-    let setting = received(value, stored);
-    error_number(setting.error())
+    error_number(setting_error(received(value, stored)))
 }
 
 #[unsafe(no_mangle)]

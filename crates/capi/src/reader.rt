@@ -3,10 +3,9 @@ ghost use Rattle.std.specs.Prelude.{◌≡◌};
 ghost use Rattle.capsule.specs.Calls.{lent};
 ghost use Rattle.reader_calls.specs.Reader.{opened, open_words, fed, feed_words, closed, close_words};
 
-use capsule::reader::CloseAnswer;
 use reader_answers::reader::{ClosedAnswer, FedAnswer, closed_answer};
 use reader_calls::reader::{OpeningNumbers, feed_words, open_words};
-use reader_words::words::{Loaded, load, store};
+use reader_words::words::{load, store};
 use refusals::Refusal;
 
 // The refusal's number, or 0.
@@ -34,24 +33,15 @@ pub extern "C" fn mrz_reader_feed(
 pub extern "C" fn mrz_reader_close(words: &mut [u64; 8]) -> ClosedAnswer
     ensures { closed result words.new ≡ close_words words.old }
 {
-    match load(words) {
-        Loaded::Nothing => closed_answer(CloseAnswer::Refused(Refusal::UNMAKEABLE_STATE)),
-        Loaded::Is(reader) => {
-            let done = reader.close();
-            let answer = done.answer;
-            match answer {
-                CloseAnswer::Refused(_) => closed_answer(answer),
-                CloseAnswer::Clean => {
-                    let next = done.reader;
-                    store(words, next);
-                    closed_answer(answer)
-                }
-                CloseAnswer::Truncated => {
-                    let next = done.reader;
-                    store(words, next);
-                    closed_answer(answer)
-                }
-            }
+    let Some(reader) = load(words) else {
+        return closed_answer(Err(Refusal::UNMAKEABLE_STATE));
+    };
+    let closed = reader.close();
+    match closed.answer {
+        Err(_) => closed_answer(closed.answer),
+        Ok(_) => {
+            store(words, closed.reader);
+            closed_answer(closed.answer)
         }
     }
 }

@@ -2,9 +2,9 @@
 ghost use Rattle.std.specs.Prelude.{◌≡◌};
 ghost use Rattle.capi.specs.Sight.{look_words};
 
-use look::{Looked, look};
+use look::look;
 use reader_answers::sight::{LookAnswer, looked_answer};
-use reader_words::words::{Loaded, load};
+use reader_words::words::load;
 use refusals::Refusal;
 
 #[unsafe(no_mangle)]
@@ -12,7 +12,7 @@ pub extern "C" fn mrz_reader_look(words: &[u64; 8]) -> LookAnswer
     ensures { result ≡ look_words words.now }
 {
     match load(words) {
-        Loaded::Nothing => looked_answer(Looked::Refused(Refusal::UNMAKEABLE_STATE)),
-        Loaded::Is(reader) => looked_answer(look(reader)),
+        None => looked_answer(Err(Refusal::UNMAKEABLE_STATE)),
+        Some(reader) => looked_answer(look(reader)),
     }
 }

@@ -13,6 +13,8 @@ use stream_records::record::StreamRecord;
 use streams::table::{close_side, find_stream, open_stream};
 use wire::units::StreamId;
 
+// What looks alike here is alike for C alone: each exported name is a function, with the parameters of the header in
+// its order.
 #[unsafe(no_mangle)]
 pub extern "C" fn mrz_stream_open(
     streams: &mut [StreamRecord],

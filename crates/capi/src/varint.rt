@@ -8,6 +8,8 @@ ghost use Rattle.capi.specs.Varint.{wrote, wrote_by};
 use answers::varint::{VarintAnswer, WrittenAnswer, varint_answer, written_answer};
 use wire::varint::{read_varint, write_varint};
 
+// What looks alike here is alike for C alone: each exported name is a function, with the parameters of the header in
+// its order.
 #[unsafe(no_mangle)]
 pub extern "C" fn mrz_read_varint(bytes: &[u8]) -> VarintAnswer
     ensures { result ≡ varint_answer (read_varint bytes.now) }

@@ -1,4 +1,3 @@
 mod Terms
 pub mod Moving
 pub mod Verdicts
-pub mod Judging

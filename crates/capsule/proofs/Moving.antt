@@ -1,35 +1,34 @@
 -- A feeding's bytes, moved as its plan says. Assumes nothing.
-use Rattle.walks.proofs.Words.{◌≡◌, refl, sym, ap, ◌∙◌, ℕ, suc, ◌+◌, ◌-◌, ◌*◌, ◌/◌, ◌%◌, ◌^◌, ◌≤◌, ◌<◌, add-one, arith, Bool, true, false, List, length, take, set, length-append, sets, length-sets, length-take-le}
-use Rattle.capsule.proofs.Terms.{Partial, bytes_of, held_bytes, pow_256, length-bytes_of, sets-append, only_if, Plan, Reader, Ended, Took, Lent, lent, finishes_in, plan_of, held_of, wrote, stored, judged_in, feeding, fed_by, take_of, Wrote, copying, copy, copied}
+use Rattle.std.specs.Prelude.{Option, Ok}
+use Rattle.opening.specs.declared.Report.{Report}
+use Rattle.capsule.specs.Reader.{taking}
+use Rattle.walks.proofs.Words.{◌≡◌, refl, sym, ap, ◌∙◌, ℕ, zero, suc, ◌+◌, ◌-◌, ◌/◌, ◌%◌, ◌^◌, ◌≤◌, arith, Bool, true, false, List, [], ◌∷◌, ◌++◌, length, take, drop, length-append, sets, length-sets, length-take-le, sets-eq}
+use Rattle.std.specs.Int.{bytes_high_first, to_be_bytes, w64}
+use Rattle.std.specs.List.{between}
+use Rattle.std.proofs.lemmas.Slice.{between_to_end}
+use Rattle.capsule.proofs.Terms.{Partial, bytes_of, held_bytes, length-bytes_of, sets-append, only_if, Plan, Reader, Lent, lent, finishes_in, plan_of, held_of, wrote, stored, judged_in, feeding, fed_by, take_of, Wrote, copying, copy, copied}
 
--- ---- a number's bytes, from the first on
+-- ---- a number's bytes
 
--- the first of k + 1 bytes, then the others
-first_out : (o : List ℕ) (i k raw : ℕ) → sets (set o i (raw / 256 ^ k % 256)) (suc i) (bytes_of k raw) ≡ sets o i (bytes_of (suc k) raw)
+high_first : (k n : ℕ) → bytes_high_first k n ≡ bytes_of k n
 unfolding bytes_of
-first_out o i k raw = refl
+high_first zero n = refl
+high_first (suc zero) n = let e : n / 256 ^ 0 % 256 ≡ n % 256 = omega arith in sym (ap (λ (b : ℕ). b ∷ []) e)
+high_first (suc (suc k)) n = ap (λ (s : List ℕ). n / 256 ^ suc k % 256 ∷ s) (high_first (suc k) n)
 
--- i of n bytes are in place, and the others would make the whole
-abbrev pub Putting : ℕ → ℕ → List ℕ → List ℕ → ℕ → Type 0
-Putting n raw o₀ o i = sets o i (bytes_of (n - i) raw) ≡ sets o₀ 0 (bytes_of n raw)
+last_of : (k d m n : ℕ) → m ≡ k + d → drop d (bytes_of m n) ≡ bytes_of k n
+unfolding bytes_of
+last_of k zero m n e = let same : m ≡ k = omega arith in ap (λ (i : ℕ). bytes_of i n) same
+last_of k (suc d) m n e = let same : m ≡ suc (k + d) = omega arith in ap (λ (i : ℕ). drop (suc d) (bytes_of i n)) same ∙ last_of k d (k + d) n refl
 
-module _ (n raw : ℕ) (o₀ : List ℕ) where
-  pub put_none : Putting n raw o₀ o₀ 0
-  put_none = let e : n - 0 ≡ n = omega arith in rw e
-
-  module _ (o : List ℕ) (i : ℕ) (e : Putting n raw o₀ o i) where
-    pub put_next : i < n → Putting n raw o₀ (set o i (raw / 2 ^ (8 * (n - i - 1)) % 256)) (i + 1)
-    put_next h = go (n - i - 1) refl
-      where
-        go : (k : ℕ) → n - i - 1 ≡ k → Putting n raw o₀ (set o i (raw / 2 ^ (8 * (n - i - 1)) % 256)) (i + 1)
-        go k q =
-            let a : n - i ≡ suc k = omega arith in
-            let b : n - (i + 1) ≡ k = omega arith in
-            rw (q, b, add-one i, pow_256 k) (first_out o i k raw ∙ ap (λ (x : ℕ). sets o i (bytes_of x raw)) (sym a) ∙ e)
-
-    pub put_all : n ≤ i → o ≡ sets o₀ 0 (bytes_of n raw)
-    unfolding bytes_of
-    put_all h = let z : n - i ≡ 0 = omega arith in sym (ap (λ (x : ℕ). sets o i (bytes_of x raw)) z) ∙ e
+-- the last k of the eight bytes, at the front of the output
+pub put_last : (k n : ℕ) (o bytes run : List ℕ) → k ≤ 8 → k ≤ length o → bytes ≡ to_be_bytes w64 n → run ≡ between (8 - k) 8 bytes
+    → run ++ drop k o ≡ sets o 0 (bytes_of k n)
+put_last k n o bytes run h l b r =
+    let w : List ℕ = bytes_of k n in
+    let len : 0 + length w ≡ k = omega (arith, length-bytes_of k n) in
+    let is_w : run ≡ w = r ∙ between_to_end bytes (8 - k) 8 (omega (arith, ap length b)) ∙ rw (b, high_first 8 n) (last_of k (8 - k) 8 n (omega arith)) in
+    rw is_w (sym (sets-eq w o 0 (omega arith) ∙ ap (λ (i : ℕ). w ++ drop i o) len))
 
 -- ---- a run of bytes
 
@@ -62,6 +61,12 @@ module _ (p o : List ℕ) (forward : Bool) (held : Partial) (consumed : ℕ) whe
             ∙ sets-append o 0 w (take consumed p);
       })
 
+  -- the same, where the run's place is a number of its own
+  pub wrote_first : (first : ℕ) → first ≡ held.have → forward ≡ true → consumed ≤ length p → held.have + consumed ≤ length o → (put : List ℕ)
+      → put ≡ sets o 0 (bytes_of held.have held.raw) → (done : Bool) (after : List ℕ) → copying done after ≡ copy p 0 put first consumed
+      → Wrote (wrote forward held consumed p) o (first + consumed) after
+  wrote_first first f e l h put is_put done after c = rw f (wrote_some e l h put is_put done after (rw f at c))
+
   pub wrote_none : forward ≡ false → Wrote (wrote forward held consumed p) o 0 o
   unfolding wrote only_if
   wrote_none e = rw e (record { counted = refl; placed = refl })
@@ -69,12 +74,12 @@ module _ (p o : List ℕ) (forward : Bool) (held : Partial) (consumed : ℕ) whe
 -- ---- a feeding without its refusals
 
 -- planned and moved as said, and judged by what then stands in the second buffer, it is the whole of it
-pub takes : (r : Reader) (p : List ℕ) (b : Lent) (held : Partial) (plan : Plan) (written : ℕ) (g a o : List ℕ) (ended : Ended) (last : Bool)
+pub takes : (r : Reader) (p : List ℕ) (b : Lent) (held : Partial) (plan : Plan) (written : ℕ) (g a o : List ℕ) (ended : Option Report) (last : Bool)
     → held ≡ held_of r.phase → plan ≡ plan_of r.opening p r.phase
     → g ≡ stored plan.store plan.at plan.consumed plan.place p b.gathering
     → a ≡ stored plan.keep plan.at plan.consumed plan.place p b.addresses
     → Wrote (wrote plan.forward held plan.consumed p) b.output written o
     → ended ≡ judged_in plan.ended a → last ≡ finishes_in ended
-    → feeding (record { opening = r.opening; phase = plan.next; finished = last }) (Took plan.consumed written ended) (lent g a o) ≡ take_of r p b
+    → feeding (record { opening = r.opening; phase = plan.next; finished = last }) (Ok (taking plan.consumed written ended)) (lent g a o) ≡ take_of r p b
 unfolding take_of fed_by
 takes r p b held plan written g a o ended last is_held is_plan s k w e f = rw (← is_held, ← is_plan, f, e, s, k, w.counted, w.placed)

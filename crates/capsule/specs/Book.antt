@@ -1,15 +1,12 @@
 -- Demand 3's book (document 01's term): it holds the opening, the stream and a finished mark, reads the stream by the grammar, and never sees a reader.
-use Rattle.std.specs.Prelude.{ℕ, suc, Bool, true, false, cond, ◌||◌, List, [], ◌∷◌, ◌++◌, length, drop}
-use Rattle.std.proofs.Math.Option.{Option, none, some}
+use Rattle.refusals.specs.declared.Refusal.{Refusal}
+use Rattle.capsule.specs.declared.reader.Ending.{Ending}
+use Rattle.capsule.specs.declared.reader.Ending.TheVariants.{Clean, Truncated}
+use Rattle.std.specs.Prelude.{ℕ, suc, Bool, true, false, cond, ◌||◌, List, [], ◌∷◌, ◌++◌, length, drop, Some, None, Result, Ok, Err}
+use Rattle.std.specs.Prelude.{Option}
 use Rattle.refusals.specs.Numbers.{finished}
 use Rattle.opening.specs.declared.Opening.{Opening}
 use Rattle.opening.specs.declared.Report.{Report}
-use Rattle.planning.specs.declared.Ended.{Ended}
-use Rattle.planning.specs.declared.Ended.TheVariants.{Nothing, Capsule}
-use Rattle.capsule.specs.declared.reader.CloseAnswer.{CloseAnswer}
-use Rattle.capsule.specs.declared.reader.CloseAnswer.TheVariants.{Clean, Truncated}
-use Rattle.opening.specs.declared.Verdict.{Verdict}
-use Rattle.opening.specs.declared.Verdict.TheVariants.{Accepted, Refused}
 use Rattle.capsule.specs.Grammar as grammar
 use Rattle.capsule.specs.Grammar.{Stage, in_type, in_length, in_value, Parts, parts_by}
 use Rattle.opening.specs.Kinds.{extent_of, report_of, judged, only_delivered, forwards}
@@ -46,8 +43,8 @@ forwarded op s = from_parts op (parts_for op s)
 -- ---- feeding
 
 unfoldable pub first_of : List grammar.Capsule → Option grammar.Capsule
-first_of [] = none
-first_of (c ∷ cs) = some c
+first_of [] = None
+first_of (c ∷ cs) = Some c
 
 -- the capsule that the byte b completes behind s, if it completes one
 unfoldable pub completes : Opening → List ℕ → ℕ → Option grammar.Capsule
@@ -60,25 +57,25 @@ pub record Taken : Type 0 where
 
 -- a piece's bytes are appended one by one, up to one that completes a capsule
 unfoldable pub append : Opening → List ℕ → List ℕ → Taken
-append op s [] = record { stream = s; consumed = 0; capsule = none }
+append op s [] = record { stream = s; consumed = 0; capsule = None }
 append op s (b ∷ p) =
     let rest = append op (s ++ (b ∷ [])) p in
     elim (completes op s b) [
-      | none ↦ record { stream = rest.stream; consumed = suc rest.consumed; capsule = rest.capsule }
-      | some c ↦ record { stream = s ++ (b ∷ []); consumed = 1; capsule = some c }
+      | None ↦ record { stream = rest.stream; consumed = suc rest.consumed; capsule = rest.capsule }
+      | Some c ↦ record { stream = s ++ (b ∷ []); consumed = 1; capsule = Some c }
     ]
 
 unfoldable pub reported : Opening → grammar.Capsule → Report
 reported op c = judged (report_of op c.ctype c.size) c.value
 
-unfoldable pub ended_by : Opening → Option grammar.Capsule → Ended
-ended_by op none = Nothing
-ended_by op (some c) = Capsule (reported op c)
+unfoldable pub ended_by : Opening → Option grammar.Capsule → Option Report
+ended_by op None = None
+ended_by op (Some c) = Some (reported op c)
 
 -- a delivered payload, and a delivered address value, is the capsule's value
 unfoldable pub payload_by : Opening → Option grammar.Capsule → List ℕ
-payload_by op none = []
-payload_by op (some c) = only_delivered (reported op c) c.value c.value
+payload_by op None = []
+payload_by op (Some c) = only_delivered (reported op c) c.value c.value
 
 -- ---- the book
 
@@ -90,18 +87,18 @@ pub record Book : Type 0 where
 unfoldable pub new_book : Opening → Book
 new_book op = record { opening = op; stream = []; mark = false }
 
-unfoldable pub book_verdict : Book → List ℕ → Lent → Verdict
+unfoldable pub book_verdict : Book → List ℕ → Lent → Result (Unit {0}) Refusal
 book_verdict k piece buffers =
-    cond k.mark (Refused finished) (lent_verdict k.opening (length piece) (length buffers.gathering) (length buffers.addresses) (length buffers.output))
+    cond k.mark (Err finished) (lent_verdict k.opening (length piece) (length buffers.gathering) (length buffers.addresses) (length buffers.output))
 
 -- what feeding adds to the forwarded bytes is written
 unfoldable pub gained : Opening → List ℕ → List ℕ → List ℕ
 gained op before after = drop (length (forwarded op before)) (forwarded op after)
 
 -- a malformed capsule sets the mark
-unfoldable pub book_feed : Book → List ℕ → Verdict → Book × Reply
-book_feed k piece (Refused r) = (k, refused r)
-book_feed k piece Accepted =
+unfoldable pub book_feed : Book → List ℕ → Result (Unit {0}) Refusal → Book × Reply
+book_feed k piece (Err r) = (k, refused r)
+book_feed k piece (Ok u) =
     let t = append k.opening k.stream piece in
     let e = ended_by k.opening t.capsule in
     let w = gained k.opening k.stream t.stream in (
@@ -110,7 +107,7 @@ book_feed k piece Accepted =
     )
 
 -- a clean close answers clean if the tail is empty
-unfoldable pub end_of : List ℕ → CloseAnswer
+unfoldable pub end_of : List ℕ → Ending
 end_of [] = Clean
 end_of (b ∷ r) = Truncated
 

@@ -1,9 +1,8 @@
 -- Calls on an open reader, and what is compared of their answers (demand 3).
-use Rattle.std.specs.Prelude.{ℕ, false, Bool, List, [], ◌∷◌}
+use Rattle.capsule.specs.declared.reader.Ending.{Ending}
+use Rattle.opening.specs.declared.Report.{Report}
+use Rattle.std.specs.Prelude.{ℕ, false, Bool, List, [], ◌∷◌, Option, Some, None}
 use Rattle.refusals.specs.declared.Refusal.{Refusal}
-use Rattle.planning.specs.declared.Ended.{Ended}
-use Rattle.planning.specs.declared.Ended.TheVariants.{Nothing, Capsule}
-use Rattle.capsule.specs.declared.reader.CloseAnswer.{CloseAnswer}
 use Rattle.opening.specs.Kinds.{finishes}
 
 -- the buffers that a feeding is lent: the second one is for address capsules
@@ -23,13 +22,13 @@ pub data Call : Type 0 where
 -- stands at its report; or how a clean close found the stream
 pub data Reply : Type 0 where
   refused : Refusal → Reply
-  fed : (consumed written : ℕ) (wrote : List ℕ) (ended : Ended) (payload : List ℕ) → Reply
-  closed : CloseAnswer → Reply
+  fed : (consumed written : ℕ) (wrote : List ℕ) (ended : Option Report) (payload : List ℕ) → Reply
+  closed : Ending → Reply
 
 -- whether nothing may follow what ended
-unfoldable pub finishes_in : Ended → Bool
-finishes_in Nothing = false
-finishes_in (Capsule r) = finishes r
+unfoldable pub finishes_in : Option Report → Bool
+finishes_in None = false
+finishes_in (Some r) = finishes r
 
 -- a list of calls, one after another, on anything that answers calls
 unfoldable pub run : {S : Type 0} → (S → Call → S × Reply) → S → List Call → S × List Reply

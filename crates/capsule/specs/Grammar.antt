@@ -1,6 +1,5 @@
 -- The capsule grammar (RFC 9297, section 3.2): a byte list, split from its front.
-use Rattle.std.specs.Prelude.{ℕ, zero, suc, ◌+◌, cond, List, [], ◌∷◌, ◌++◌, length, take, drop, leb}
-use Rattle.wire.specs.declared.varint.Varint.TheVariants.{Incomplete, Whole}
+use Rattle.std.specs.Prelude.{ℕ, zero, suc, ◌+◌, cond, List, [], ◌∷◌, ◌++◌, length, take, drop, leb, Some, None}
 use Rattle.wire.specs.Varint.{read_varint}
 
 -- How many value bytes complete a capsule, by its type and its length. The grammar's is the length itself; the book's asks the opening
@@ -25,10 +24,10 @@ pub data Front : Type 0 where
 
 unfoldable pub front_by : Extent → List ℕ → Front
 front_by ext s = elim (read_varint s) [
-  | Incomplete ↦ part in_type
-  | Whole t j ↦ elim (read_varint (drop j s)) [
-    | Incomplete ↦ part (in_length t j)
-    | Whole n k ↦ cond (leb (j + k + ext t n) (length s)) (whole t n (j + k)) (part (in_value t n (j + k)))
+  | None ↦ part in_type
+  | Some t ↦ elim (read_varint (drop t.size s)) [
+    | None ↦ part (in_length t.value t.size)
+    | Some n ↦ cond (leb (t.size + n.size + ext t.value n.value) (length s)) (whole t.value n.value (t.size + n.size)) (part (in_value t.value n.value (t.size + n.size)))
   ]
 ]
 

@@ -7,7 +7,10 @@ ghost use Rattle.capsule.specs.Moves.{Wrote};
 
 use wire::partial::Partial;
 
-// The consumed bytes from `at` on, to a buffer for values from `place` on.
+// The consumed bytes from `at` on, to a buffer for values from `place` on. `store` and `forward` are parts of a plan,
+// which the definitions `stored` and `wrote` take too: with the test here, a plan has one place where its bytes are
+// moved. The place is the reader's own, and the buffer the host's, who keeps it between feedings.
+#[tactic(auto, unfolding(crate::specs::Reader::stored))]
 pub(crate) fn store_bytes(
     piece: &[u8],
     gathering: &mut [u8],
@@ -35,26 +38,21 @@ pub(crate) fn forward_bytes(
     requires { (consumed ≤ length piece.now) × (held.have ≤ 8) × (forward ≡ true → held.have + consumed ≤ length out.old) }
     ensures { Wrote (wrote forward held consumed piece.now) out.old result out.new }
 {
-    if forward {
-        let have = held.have;
-        put_held(out, have, held.raw);
-        let first = have as usize;
-        copying::copy_span(piece, 0, out, first, consumed);
-        return first + consumed;
+    if !forward {
+        return 0;
     }
-    0
+    put_held(out, held);
+    let first = usize::from(held.have);
+    copying::copy_span(piece, 0, out, first, consumed);
+    first + consumed
 }
 
-// The last `have` bytes of a number, at the start of the output.
-fn put_held(out: &mut [u8], have: u8, raw: u64)
-    requires { (have ≤ 8) × (have ≤ length out.old) }
-    ensures { out.new ≡ sets out.old 0 (bytes_of have raw) }
+// The bytes of a part of a varint, at the start of the output.
+fn put_held(out: &mut [u8], held: Partial)
+    requires { (held.have ≤ 8) × (held.have ≤ length out.old) }
+    ensures { out.new ≡ sets out.old 0 (bytes_of held.have held.raw) }
 {
-    let n = have as usize;
-    let mut i: usize = 0;
-    while i < n {
-        let shift = 8 * (n - i - 1);
-        out[i] = ((raw >> shift) % 256) as u8;
-        i += 1;
-    }
+    let n = usize::from(held.have);
+    let bytes = held.raw.to_be_bytes();
+    out[..n].copy_from_slice(&bytes[bytes.len() - n..]);
 }

@@ -1,50 +1,40 @@
 // The reader: its state goes in by value and comes back.
-ghost use Rattle.std.specs.Prelude.{◌≡◌, length, take};
-ghost use Rattle.opening.specs.declared.Verdict.TheVariants.{Accepted};
-ghost use Rattle.opening.specs.declared.Report.TheVariants.{AddressDelivered};
+ghost use Rattle.std.specs.Prelude.{◌≡◌, length, take, Ok};
 ghost use Rattle.opening.specs.Kinds.{length_of, judged};
 ghost use Rattle.capsule.specs.Calls.{lent, finishes_in};
 ghost use Rattle.capsule.specs.Reader.{open_of, is_makeable, verdict_of, judged_in, feeding, take_of, feed_of, end_at, close_of};
 
 use crate::moves::{forward_bytes, store_bytes};
 use address_rules::well_formed;
-use opening::{Opening, Report, Role, Verdict, is_last_report, lent_verdict};
-use planning::{Ended, Phase, held_of, is_makeable_phase, plan_of};
+use opening::{Opening, Report, Role, is_last_report, lent_verdict};
+use planning::{Phase, held_of, is_makeable_phase, plan_of};
 use refusals::Refusal;
 use wire::partial::Partial;
 
-#[derive(Clone, Copy)]
+#[derive(Clone, Copy, Debug, PartialEq, Eq)]
 pub struct Reader {
     pub opening: Opening,
     pub phase: Phase,
     pub finished: bool,
 }
 
-#[derive(Clone, Copy)]
-pub enum Opened {
-    Refused(Refusal),
-    Ready(Reader),
-}
-
-#[derive(Clone, Copy)]
-pub enum FeedAnswer {
-    Refused(Refusal),
-    Took {
-        consumed: usize,
-        written: usize,
-        ended: Ended,
-    },
+// What a feeding did: how many bytes it consumed and forwarded, and the report of the capsule that ended in it.
+#[derive(Clone, Copy, Debug, PartialEq, Eq)]
+pub struct Advance {
+    pub consumed: usize,
+    pub written: usize,
+    pub ended: Option<Report>,
 }
 
 #[derive(Clone, Copy)]
 pub struct Fed {
     pub reader: Reader,
-    pub answer: FeedAnswer,
+    pub answer: Result<Advance, Refusal>,
 }
 
-#[derive(Clone, Copy)]
-pub enum CloseAnswer {
-    Refused(Refusal),
+// How a clean close finds the stream.
+#[derive(Clone, Copy, Debug, PartialEq, Eq)]
+pub enum Ending {
     Clean,
     Truncated,
 }
@@ -52,57 +42,62 @@ pub enum CloseAnswer {
 #[derive(Clone, Copy)]
 pub struct Closed {
     pub reader: Reader,
-    pub answer: CloseAnswer,
+    pub answer: Result<Ending, Refusal>,
 }
 
 impl Reader {
     // Opening fixes the role, the datagram limit, the draft setting and whether an endpoint takes address capsules.
-    pub fn open(role: Role, limit: u64, draft: bool, addresses: bool) -> Opened
+    #[tactic(auto, unfolding(crate::specs::Reader::open_of, crate::specs::Reader::is_opening))]
+    pub fn open(role: Role, limit: u64, draft: bool, addresses: bool) -> Result<Reader, Refusal>
         ensures { result ≡ open_of role limit draft addresses }
     {
         if limit > Opening::MAX_LIMIT {
-            return Opened::Refused(Refusal::LIMIT_TOO_LARGE);
+            return Err(Refusal::LIMIT_TOO_LARGE);
         }
         let opening = Opening {
-            role: role,
-            limit: limit,
-            draft: draft,
-            addresses: addresses,
+            role,
+            limit,
+            draft,
+            addresses,
         };
-        Opened::Ready(Reader {
-            opening: opening,
+        Ok(Reader {
+            opening,
             phase: Phase::InType(Partial::EMPTY),
             finished: false,
         })
     }
 
     // Whether opening, feeding and closing can make this state.
+    #[tactic(auto, unfolding(crate::specs::Reader::is_makeable, crate::specs::Reader::is_opening))]
     pub fn is_makeable(self) -> bool
         ensures { result ≡ is_makeable self }
     {
-        let opening = self.opening;
-        if opening.limit > Opening::MAX_LIMIT {
-            return false;
-        }
-        let phase = self.phase;
-        is_makeable_phase(opening, phase)
+        self.opening.limit <= Opening::MAX_LIMIT && is_makeable_phase(self.opening, self.phase)
     }
 
-    // What a feeding is refused for, by the lengths of the piece and of the lent buffers.
-    pub fn verdict(self, piece: usize, gathering: usize, addresses: usize, output: usize) -> Verdict
+    // What a feeding is refused for, by the lengths of the piece and of the lent buffers. The lent buffers are
+    // arguments of their own, as in C (`mrz_reader_feed`) and in the definitions (`lent`).
+    #[tactic(auto, unfolding(crate::specs::Reader::verdict_of))]
+    pub fn verdict(
+        self,
+        piece: usize,
+        gathering: usize,
+        addresses: usize,
+        output: usize,
+    ) -> Result<(), Refusal>
         ensures { result ≡ verdict_of self piece gathering addresses output }
     {
         if !self.is_makeable() {
-            return Verdict::Refused(Refusal::UNMAKEABLE_STATE);
+            return Err(Refusal::UNMAKEABLE_STATE);
         }
         if self.finished {
-            return Verdict::Refused(Refusal::FINISHED);
+            return Err(Refusal::FINISHED);
         }
-        let opening = self.opening;
-        lent_verdict(opening, piece, gathering, addresses, output)
+        lent_verdict(self.opening, piece, gathering, addresses, output)
     }
 
     // Consumes the piece up to the end of the first capsule to end in it, or all of it.
+    #[tactic(auto, using(crate::proofs::Verdicts::feed_taken))]
     pub fn feed(
         self,
         piece: &[u8],
@@ -112,43 +107,38 @@ impl Reader {
     ) -> Fed
         ensures { feeding result.reader result.answer (lent gathering.new addresses.new output.new) ≡ feed_of self piece.now (lent gathering.old addresses.old output.old) }
     {
-        let verdict = self.verdict(piece.len(), gathering.len(), addresses.len(), output.len());
-        match verdict {
-            Verdict::Refused(why) => Fed {
+        match self.verdict(piece.len(), gathering.len(), addresses.len(), output.len()) {
+            Ok(()) => self.take(piece, gathering, addresses, output),
+            Err(why) => Fed {
                 reader: self,
-                answer: FeedAnswer::Refused(why),
+                answer: Err(why),
             },
-            Verdict::Accepted => self.take(piece, gathering, addresses, output),
         }
     }
 
     // The stream ends here, cleanly.
+    #[tactic(auto, unfolding(crate::specs::Reader::close_of))]
     pub fn close(self) -> Closed
         ensures { result ≡ close_of self }
     {
         if !self.is_makeable() {
             return Closed {
                 reader: self,
-                answer: CloseAnswer::Refused(Refusal::UNMAKEABLE_STATE),
+                answer: Err(Refusal::UNMAKEABLE_STATE),
             };
         }
         if self.finished {
             return Closed {
                 reader: self,
-                answer: CloseAnswer::Refused(Refusal::FINISHED),
+                answer: Err(Refusal::FINISHED),
             };
         }
-        let opening = self.opening;
-        let phase = self.phase;
-        let end = end_at(phase);
-        let reader = Reader {
-            opening: opening,
-            phase: phase,
-            finished: true,
-        };
         Closed {
-            reader: reader,
-            answer: end,
+            reader: Reader {
+                finished: true,
+                ..self
+            },
+            answer: Ok(end_at(self.phase)),
         }
     }
 
@@ -160,13 +150,10 @@ impl Reader {
         addresses: &mut [u8],
         output: &mut [u8],
     ) -> Fed
-        requires { verdict_of self (length piece.now) (length gathering.old) (length addresses.old) (length output.old) ≡ Accepted }
+        requires { verdict_of self (length piece.now) (length gathering.old) (length addresses.old) (length output.old) ≡ Ok tt }
         ensures { feeding result.reader result.answer (lent gathering.new addresses.new output.new) ≡ take_of self piece.now (lent gathering.old addresses.old output.old) }
     {
-        let opening = self.opening;
-        let phase = self.phase;
-        let held = held_of(phase);
-        let plan = plan_of(opening, piece, phase);
+        let plan = plan_of(self.opening, piece, self.phase);
         store_bytes(
             piece,
             gathering,
@@ -183,102 +170,60 @@ impl Reader {
             plan.consumed,
             plan.place,
         );
+        let held = held_of(self.phase);
         let written = forward_bytes(piece, output, plan.forward, held, plan.consumed);
-        let next = plan.next;
-        let planned = plan.ended;
-        let ended = judge(planned, addresses);
-        let finished = is_last(ended);
-        let reader = Reader {
-            opening: opening,
-            phase: next,
-            finished: finished,
-        };
+        let ended = judge(plan.ended, addresses);
         Fed {
-            reader: reader,
-            answer: FeedAnswer::Took {
-                consumed: plan.consumed,
-                written: written,
-                ended: ended,
+            reader: Reader {
+                opening: self.opening,
+                phase: plan.next,
+                finished: is_last(ended),
             },
+            answer: Ok(Advance {
+                consumed: plan.consumed,
+                written,
+                ended,
+            }),
         }
     }
 }
 
-fn judge(ended: Ended, addresses: &[u8]) -> Ended
+#[tactic(auto, unfolding(crate::specs::Reader::judged_in))]
+fn judge(ended: Option<Report>, addresses: &[u8]) -> Option<Report>
     ensures { result ≡ judged_in ended addresses.now }
 {
-    match ended {
-        Ended::Nothing => ended,
-        Ended::Capsule(report) => Ended::Capsule(judge_report(report, addresses)),
-    }
+    Some(judge_report(ended?, addresses))
 }
 
 // Whether nothing may follow.
-fn is_last(ended: Ended) -> bool
+#[tactic(auto, unfolding(crate::specs::Calls::finishes_in))]
+fn is_last(ended: Option<Report>) -> bool
     ensures { result ≡ finishes_in ended }
 {
-    match ended {
-        Ended::Nothing => false,
-        Ended::Capsule(report) => is_last_report(report),
-    }
+    ended.is_some_and(is_last_report)
 }
 
 // How a clean close finds the stream.
 #[tactic(auto, unfolding(crate::specs::Reader::end_at))]
-fn end_at(phase: Phase) -> CloseAnswer
+fn end_at(phase: Phase) -> Ending
     ensures { result ≡ end_at phase }
 {
     match phase {
-        Phase::InType(part) => {
-            if part.have == 0 {
-                return CloseAnswer::Clean;
-            }
-            CloseAnswer::Truncated
-        }
-        Phase::InLength { ctype: _, part: _ } => CloseAnswer::Truncated,
-        Phase::InValue {
-            ctype: _,
-            length: _,
-            left: _,
-        } => CloseAnswer::Truncated,
-    }
-}
-
-fn judge_report(report: Report, addresses: &[u8]) -> Report
-    ensures { result ≡ judged report (take (length_of report) addresses.now) }
-{
-    match report {
-        Report::Delivered { length: _ } => report,
-        Report::Dropped { length: _ } => report,
-        Report::Skipped {
-            ctype: _,
-            length: _,
-        } => report,
-        Report::Passed {
-            ctype: _,
-            length: _,
-        } => report,
-        Report::AddressDelivered { ctype, length } => judge_address(ctype, length, addresses),
-        Report::Malformed {
-            ctype: _,
-            length: _,
-        } => report,
+        Phase::InType(part) if part.have == 0 => Ending::Clean,
+        _ => Ending::Truncated,
     }
 }
 
 // A value of an address capsule is judged where it stands: at the front of the second buffer.
-fn judge_address(ctype: u64, length: u64, addresses: &[u8]) -> Report
-    ensures { result ≡ judged (AddressDelivered ctype length) (take length addresses.now) }
+#[tactic(auto, unfolding(opening::specs::Kinds::judged, opening::specs::Kinds::length_of))]
+fn judge_report(report: Report, addresses: &[u8]) -> Report
+    ensures { result ≡ judged report (take (length_of report) addresses.now) }
 {
-    if (addresses.len() as u64) < length {
-        if well_formed(ctype, addresses) {
-            return Report::AddressDelivered { ctype, length };
+    if let Report::AddressDelivered { ctype, length } = report {
+        let n = addresses.len().min(length as usize);
+        if !well_formed(ctype, &addresses[..n]) {
+            return Report::Malformed { ctype, length };
         }
-        return Report::Malformed { ctype, length };
     }
-    let n = length as usize;
-    if well_formed(ctype, &addresses[..n]) {
-        return Report::AddressDelivered { ctype, length };
-    }
-    Report::Malformed { ctype, length }
+    report
 }

@@ -1,7 +1,7 @@
 -- Address capsules, for every role, limit, draft setting and opting in. Assumes nothing.
+use Rattle.std.specs.Prelude.{Result, Ok, Err}
 use Rattle.walks.proofs.Words.{◌≡◌, refl, sym, ap, ◌∙◌, ◌↔◌, inl, inr, ℕ, ◌≤◌, ◌<◌, arith, Bool, true, false, cond, ◌&&◌, ◌||◌, List, length, leb, eqb, leb-true, le-leb, lt-leb, eqb-true, eq-eqb}
-use Rattle.capsule_laws.proofs.Terms.{unmakeable_state, finished, gathering_too_short, addresses_too_short, output_too_short, Refusal, both, parted, is_address_type, longest_address_value, Role, Endpoint, Intermediary, Kind, Datagram, Address, Unknown, Opening, Reader, Verdict, Accepted, Refused, opted, opted_by, kind_of, extent_by, extent_of, gathers_by, gathers, keeps_by, keeps, Lent, lent_verdict, open_of, is_opening, is_makeable, verdict_of, fed_by, take_of, feed_by, feed_of, kind_address, zero_one, no_true, endpoint_on, addresses-short, IsAddress, AddressExactly, CompleteExactly, AddressesTooShortExactly, IsDatagram, GathersExactly, KeepsExactly, OpenExactly, OthersAsBefore}
-use Rattle.capsule.specs.declared.reader.FeedAnswer.TheVariants as fed_as
+use Rattle.capsule_laws.proofs.Terms.{unmakeable_state, finished, gathering_too_short, addresses_too_short, output_too_short, Refusal, both, parted, is_address_type, longest_address_value, Role, Endpoint, Intermediary, Kind, Datagram, Address, Unknown, Opening, Reader, opted, opted_by, kind_of, extent_by, extent_of, gathers_by, gathers, keeps_by, keeps, Lent, lent_verdict, open_of, is_opening, is_makeable, verdict_of, fed_by, take_of, feed_by, feed_of, kind_address, zero_one, no_true, endpoint_on, addresses-short, IsAddress, AddressExactly, CompleteExactly, AddressesTooShortExactly, IsDatagram, GathersExactly, KeepsExactly, OpenExactly, OthersAsBefore}
 use Rattle.capsule_laws.specs.Before as before
 use Rattle.capsule_laws.proofs.Graphs.{Lends, short_gathering, short_addresses, short_output, enough, lends}
 
@@ -53,11 +53,11 @@ complete_exactly op t n = record { too_long = long; all = whole }
 
 -- ---- refusal 18
 
-other_number : (w : Refusal) → (w.0 ≡ 18 → ⊥) → Refused w ≡ Refused addresses_too_short → ⊥
+other_number : (w : Refusal) → (w.0 ≡ 18 → ⊥) → ◌≡◌ {A = Result (Unit {0}) Refusal} (Err w) (Err addresses_too_short) → ⊥
 other_number w h e = let d : w ≡ addresses_too_short = cc in h (ap (λ (x : Refusal). x.0) d)
 
 module _ (r : Reader) (p : List ℕ) (b : Lent) where
-  says : Verdict
+  says : (Result (Unit {0}) Refusal)
   says = verdict_of r (length p) (length b.gathering) (length b.addresses) (length b.output)
 
   abbrev Short : Type 0
@@ -70,7 +70,7 @@ module _ (r : Reader) (p : List ℕ) (b : Lent) where
       × (length b.addresses < 1024)
 
   -- what is lent is refused so only for the second buffer
-  by_lent : {v : Verdict} → Lends r.opening (length p) (length b.gathering) (length b.addresses) (length b.output) v → v ≡ Refused addresses_too_short
+  by_lent : {v : (Result (Unit {0}) Refusal)} → Lends r.opening (length p) (length b.gathering) (length b.addresses) (length b.output) v → v ≡ Err addresses_too_short
       → (r.opening.limit ≤ length b.gathering) × (opted r.opening ≡ true) × (length b.addresses < 1024)
   unfolding longest_address_value
   by_lent (short_gathering h) e = absurd (other_number gathering_too_short (λ z. omega arith) e)
@@ -78,29 +78,29 @@ module _ (r : Reader) (p : List ℕ) (b : Lent) where
   by_lent short_output e = absurd (other_number output_too_short (λ z. omega arith) e)
   by_lent enough e = zero_one (cc)
 
-  by_state : says ≡ Refused addresses_too_short → Short
+  by_state : says ≡ Err addresses_too_short → Short
   unfolding says verdict_of
   by_state e = go (is_makeable r) r.finished refl refl e
     where
       go : (m f : Bool) → is_makeable r ≡ m → r.finished ≡ f
-          → cond m (cond f (Refused finished) (lent_verdict r.opening (length p) (length b.gathering) (length b.addresses) (length b.output))) (Refused unmakeable_state) ≡ Refused addresses_too_short → Short
+          → cond m (cond f (Err finished) (lent_verdict r.opening (length p) (length b.gathering) (length b.addresses) (length b.output))) (Err unmakeable_state) ≡ Err addresses_too_short → Short
       go false f m' f' e = absurd (other_number unmakeable_state (λ z. omega arith) e)
       go true true m' f' e = absurd (other_number finished (λ z. omega arith) e)
       go true false m' f' e = let h = by_lent (lends _ _ _ _ _) e in let q = opted_in_lem r.opening h.1 in (m', f', h.0, q.0, q.1, h.2)
 
-  refused_then : (feed_of r p b).answer ≡ fed_as.Refused addresses_too_short → Short
+  refused_then : (feed_of r p b).answer ≡ Err addresses_too_short → Short
   unfolding feed_of says
   refused_then e = go says refl e
     where
-      go : (v : Verdict) → says ≡ v → (feed_by r p b v).answer ≡ fed_as.Refused addresses_too_short → Short
-      go Accepted h e = zero_one (unfold feed_by take_of fed_by in cc)
-      go (Refused w) h e = by_state (h ∙ (let d : w ≡ addresses_too_short = unfold feed_by in cc in ap (λ (x : Refusal). Refused x) d))
+      go : (v : (Result (Unit {0}) Refusal)) → says ≡ v → (feed_by r p b v).answer ≡ Err addresses_too_short → Short
+      go (Ok tt) h e = zero_one (unfold feed_by take_of fed_by in cc)
+      go (Err w) h e = by_state (h ∙ (let d : w ≡ addresses_too_short = unfold feed_by in cc in ap (λ (x : Refusal). Err x) d))
 
-  then_refused : Short → (feed_of r p b).answer ≡ fed_as.Refused addresses_too_short
+  then_refused : Short → (feed_of r p b).answer ≡ Err addresses_too_short
   unfolding feed_of says
   then_refused s =
-      let v : says ≡ Refused addresses_too_short = unfold verdict_of longest_address_value in rw (s.0, s.1) (sym (addresses-short r.opening (length p) (length b.gathering) (length b.addresses) (length b.output) s.2 (endpoint_on r.opening s.3 s.4) s.5)) in
-      ap (λ (x : Verdict). (feed_by r p b x).answer) v ∙ (unfold feed_by in refl)
+      let v : says ≡ Err addresses_too_short = unfold verdict_of longest_address_value in rw (s.0, s.1) (sym (addresses-short r.opening (length p) (length b.gathering) (length b.addresses) (length b.output) s.2 (endpoint_on r.opening s.3 s.4) s.5)) in
+      ap (λ (x : (Result (Unit {0}) Refusal)). (feed_by r p b x).answer) v ∙ (unfold feed_by in refl)
 
 pub addresses_too_short_exactly : AddressesTooShortExactly
 addresses_too_short_exactly r p b = (refused_then r p b, then_refused r p b)

@@ -1,5 +1,5 @@
 -- What the book makes of a piece, in one step: by what stands at the front of the tail and the piece. Assumes nothing.
-use Rattle.walks.proofs.Words.{◌≡◌, refl, sym, ap, ◌∙◌, subst, ℕ, suc, ◌+◌, ◌-◌, ◌≤◌, ◌<◌, arith, none, some, List, [], ◌∷◌, ◌++◌, append_assoc, append-nil, length, take, drop, length-append, take-append-drop, drop-append_seam, length-take-le}
+use Rattle.walks.proofs.Words.{◌≡◌, refl, sym, ap, ◌∙◌, subst, ℕ, suc, ◌+◌, ◌-◌, ◌≤◌, ◌<◌, arith, None, Some, List, [], ◌∷◌, ◌++◌, append_assoc, append-nil, length, take, drop, length-append, take-append-drop, drop-append_seam, length-take-le}
 use Rattle.capsule_laws.proofs.Terms.{Bytes, Opening, Extent, Stage, in_type, Front, part, whole, front_by, Capsule, capsule_at, Parts, ahead, extent_of, parts_for, first_of, completes, Taken, append}
 use Rattle.capsule_laws.proofs.Grammar.{Sees, front_is, sees, complete, next, parts_is, parts_cut, parts_nil, parts-append, parts_part, parts-one, part_none, tail_sees, tail-bytes}
 
@@ -58,7 +58,7 @@ module _ (op : Opening) (s q : List ℕ) where
 
 -- ---- one byte
 
-completes_none : (op : Opening) (s : List ℕ) (b : ℕ) (y : Stage) → Shows op ((parts_for op s).tail ++ (b ∷ [])) (part y) → completes op s b ≡ none
+completes_none : (op : Opening) (s : List ℕ) (b : ℕ) (y : Stage) → Shows op ((parts_for op s).tail ++ (b ∷ [])) (part y) → completes op s b ≡ None
 unfolding completes first_of
 completes_none op s b y v =
     let e : drop (length (parts_for op s).capsules) ((parts_for op s).capsules ++ []) ≡ [] = drop-append_seam (parts_for op s).capsules [] in
@@ -66,28 +66,28 @@ completes_none op s b y v =
     ∙ ap first_of e
 
 completes_some : (op : Opening) (s : List ℕ) (b t n j : ℕ) → Shows op ((parts_for op s).tail ++ (b ∷ [])) (whole t n j) → j + extent_of op t n ≡ length ((parts_for op s).tail ++ (b ∷ []))
-    → completes op s b ≡ some (one t n j ((parts_for op s).tail ++ (b ∷ [])))
+    → completes op s b ≡ Some (one t n j ((parts_for op s).tail ++ (b ∷ [])))
 unfolding completes first_of
 completes_some op s b t n j v e =
     ap (λ (p : Parts). first_of (drop (length (parts_for op s).capsules) p.capsules)) (parts-ends op s (b ∷ []) t n j v e)
     ∙ ap first_of (drop-append_seam (parts_for op s).capsules (one t n j ((parts_for op s).tail ++ (b ∷ [])) ∷ []))
 
-pub append_on : (op : Opening) (s : List ℕ) (b : ℕ) (p : List ℕ) → completes op s b ≡ none
+pub append_on : (op : Opening) (s : List ℕ) (b : ℕ) (p : List ℕ) → completes op s b ≡ None
     → append op s (b ∷ p) ≡ record { stream = (append op (s ++ (b ∷ [])) p).stream; consumed = suc (append op (s ++ (b ∷ [])) p).consumed; capsule = (append op (s ++ (b ∷ [])) p).capsule }
 unfolding append
 append_on op s b p e = rw (e, append)
 
-pub append_done : (op : Opening) (s : List ℕ) (b : ℕ) (p : List ℕ) (c : Capsule) → completes op s b ≡ some c
-    → append op s (b ∷ p) ≡ record { stream = s ++ (b ∷ []); consumed = 1; capsule = some c }
+pub append_done : (op : Opening) (s : List ℕ) (b : ℕ) (p : List ℕ) (c : Capsule) → completes op s b ≡ Some c
+    → append op s (b ∷ p) ≡ record { stream = s ++ (b ∷ []); consumed = 1; capsule = Some c }
 unfolding append
 append_done op s b p c e = rw (e, append)
 
 -- ---- a whole piece: all of it is taken and no capsule ends, or the first c bytes, the last of which ends one
 
 pub data Outcome (op : Opening) (s p : List ℕ) (k : Taken) : Type 0 where
-  goes : (y : Stage) → Shows op ((parts_for op s).tail ++ p) (part y) → k ≡ record { stream = s ++ p; consumed = length p; capsule = none } → Outcome op s p k
+  goes : (y : Stage) → Shows op ((parts_for op s).tail ++ p) (part y) → k ≡ record { stream = s ++ p; consumed = length p; capsule = None } → Outcome op s p k
   ends : (t n j c : ℕ) → Shows op ((parts_for op s).tail ++ take c p) (whole t n j) → j + extent_of op t n ≡ length ((parts_for op s).tail ++ take c p) → 0 < c → c ≤ length p
-      → k ≡ record { stream = s ++ take c p; consumed = c; capsule = some (one t n j ((parts_for op s).tail ++ take c p)) } → Outcome op s p k
+      → k ≡ record { stream = s ++ take c p; consumed = c; capsule = Some (one t n j ((parts_for op s).tail ++ take c p)) } → Outcome op s p k
 
 module _ (op : Opening) (s : List ℕ) (b : ℕ) (p : List ℕ) where
   assoc : (r : List ℕ) → r ++ (b ∷ []) ++ p ≡ r ++ b ∷ p
@@ -104,12 +104,12 @@ module _ (op : Opening) (s : List ℕ) (b : ℕ) (p : List ℕ) where
     out_on (goes z w e) =
         goes z (subst (λ (l : List ℕ). Shows op l (part z)) (tail_on p) w)
         (first ∙ ap (λ (k : Taken). record { stream = k.stream; consumed = suc k.consumed; capsule = k.capsule }) e
-        ∙ (λ i. record { stream = assoc s i; consumed = suc (length p); capsule = none }))
+        ∙ (λ i. record { stream = assoc s i; consumed = suc (length p); capsule = None }))
     out_on (ends t n j c w l f g e) =
         let m : b ∷ take c p ≡ take (suc c) (b ∷ p) = refl in
         ends t n j (suc c) (subst (λ (l : List ℕ). Shows op l (whole t n j)) (tail_on (take c p)) w) (l ∙ ap (λ (l : List ℕ). length l) (tail_on (take c p))) (omega arith) (omega arith)
         (first ∙ ap (λ (k : Taken). record { stream = k.stream; consumed = suc k.consumed; capsule = k.capsule }) e
-        ∙ (λ i. record { stream = append_assoc s (b ∷ []) (take c p) i; consumed = suc c; capsule = some (one t n j (tail_on (take c p) i)) }))
+        ∙ (λ i. record { stream = append_assoc s (b ∷ []) (take c p) i; consumed = suc c; capsule = Some (one t n j (tail_on (take c p) i)) }))
 
   out_done : (t n j : ℕ) → Shows op ((parts_for op s).tail ++ (b ∷ [])) (whole t n j) → Outcome op s (b ∷ p) (append op s (b ∷ p))
   out_done t n j v =
@@ -121,7 +121,7 @@ module _ (op : Opening) (s : List ℕ) (b : ℕ) (p : List ℕ) where
 
 pub outcome : (op : Opening) (p s : List ℕ) → Outcome op s p (append op s p)
 unfolding append
-outcome op [] s = goes (parts_for op s).stage (rw append-nil (tail_shows op s)) (λ i. record { stream = sym (append-nil s) i; consumed = 0; capsule = none })
+outcome op [] s = goes (parts_for op s).stage (rw append-nil (tail_shows op s)) (λ i. record { stream = sym (append-nil s) i; consumed = 0; capsule = None })
 outcome op (b ∷ p) s = go (outcome op p (s ++ (b ∷ []))) (front_by (extent_of op) ((parts_for op s).tail ++ (b ∷ []))) (shows op ((parts_for op s).tail ++ (b ∷ [])))
   where
     go : Outcome op (s ++ (b ∷ [])) p (append op (s ++ (b ∷ [])) p) → (x : Front) → Shows op ((parts_for op s).tail ++ (b ∷ [])) x → Outcome op s (b ∷ p) (append op s (b ∷ p))
@@ -139,10 +139,10 @@ front_of : (op : Opening) (r p : List ℕ) (c t n j : ℕ) → Shows op (r ++ ta
 front_of op r p c t n j v =
     subst (λ (l : List ℕ). Shows op l (whole t n j)) (append_assoc r (take c p) (drop c p) ∙ ap (λ (l : List ℕ). r ++ l) (take-append-drop c p)) ((complete v).stays (drop c p))
 
-pub append_goes : (op : Opening) (s p : List ℕ) (y : Stage) → Shows op ((parts_for op s).tail ++ p) (part y) → append op s p ≡ record { stream = s ++ p; consumed = length p; capsule = none }
+pub append_goes : (op : Opening) (s p : List ℕ) (y : Stage) → Shows op ((parts_for op s).tail ++ p) (part y) → append op s p ≡ record { stream = s ++ p; consumed = length p; capsule = None }
 append_goes op s p y v = go (outcome op p s)
   where
-    go : Outcome op s p (append op s p) → append op s p ≡ record { stream = s ++ p; consumed = length p; capsule = none }
+    go : Outcome op s p (append op s p) → append op s p ≡ record { stream = s ++ p; consumed = length p; capsule = None }
     go (goes z w e) = e
     go (ends t n j c w l f g e) = no_both v (front_of op (parts_for op s).tail p c t n j w)
 
@@ -154,7 +154,7 @@ pub record Ends (op : Opening) (s p : List ℕ) (t n j : ℕ) : Type 0 where
   pub last : count ≡ j + extent_of op t n - length (parts_for op s).tail
   pub all : j + extent_of op t n ≡ length ((parts_for op s).tail ++ take count p)
   pub seen : Shows op ((parts_for op s).tail ++ take count p) (whole t n j)
-  pub is : append op s p ≡ record { stream = s ++ take count p; consumed = count; capsule = some (one t n j ((parts_for op s).tail ++ take count p)) }
+  pub is : append op s p ≡ record { stream = s ++ take count p; consumed = count; capsule = Some (one t n j ((parts_for op s).tail ++ take count p)) }
 
 pub append-ends : (op : Opening) (s p : List ℕ) (t n j : ℕ) → Shows op ((parts_for op s).tail ++ p) (whole t n j) → Ends op s p t n j
 append-ends op s p t n j v = go (outcome op p s)

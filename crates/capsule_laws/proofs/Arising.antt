@@ -1,7 +1,7 @@
 -- From an opening refusal 1 cannot arise, whatever is lent; and gathered value bytes stand at their places. Assumes nothing.
-use Rattle.capsule_laws.proofs.Terms.{Refusal, unmakeable_state, finished, Reader, Accepted, Reply, Call, close, refused, run, new_book, Book, book_feed, book_call, of_book, opening, is_makeable, fed_by, take_of, feed_by, feed_reply, close_reply, reader_call, zero_one, NeverUnmakeable, AllBytes, NoneIs, OpenedAsNamed, RefusedCloseUnchanged, ReaderNeverUnmakeable, StandsAfter, HandedOnStands}
+use Rattle.std.specs.Prelude.{Ok, Err}
+use Rattle.capsule_laws.proofs.Terms.{Refusal, unmakeable_state, finished, Reader, Reply, Call, close, refused, run, new_book, Book, book_feed, book_call, of_book, opening, is_makeable, fed_by, take_of, feed_by, feed_reply, close_reply, reader_call, zero_one, NeverUnmakeable, AllBytes, NoneIs, OpenedAsNamed, RefusedCloseUnchanged, ReaderNeverUnmakeable, StandsAfter, HandedOnStands}
 use Rattle.walks.proofs.Words.{◌≡◌, ap, refl, ◌∙◌, true, List, [], ◌∷◌, arith}
-use Rattle.capsule.specs.declared.reader.CloseAnswer.TheVariants as closed_as
 use Rattle.capsule_laws.proofs.{Lists.Open, Lists.open_fresh, Lists.fresh_book, Lists.verdict_same, Lists.taken-stands, Lists.left_by_lem, Lists.book_by, Lists.handed_well, Makeable.call_makeable, Makeable.opened_makeable, Graphs.Calls, Graphs.refuses_piece, Graphs.takes_piece, Graphs.refuses_close, Graphs.closes, Graphs.calls, Graphs.Books, Graphs.refuses_feed, Graphs.takes_feed, Graphs.refuses_end, Graphs.closes_book, Graphs.books}
 
 -- ---- refusal 1
@@ -42,7 +42,7 @@ reader_never_unmakeable role limit draft addresses r e cs h = all_fine r cs h (o
 pub stands_after : StandsAfter
 stands_after k p b a w h v s =
     let o : Open k = record { accepted = a; bytes = w } in
-    rw (book_by k p b Accepted v, left_by_lem k p b Accepted (verdict_same k p b o ∙ v)) (unfold feed_by in taken-stands k p b o h v s)
+    rw (book_by k p b (Ok tt) v, left_by_lem k p b (Ok tt) (verdict_same k p b o ∙ v)) (unfold feed_by in taken-stands k p b o h v s)
 
 pub handed_on_stands : HandedOnStands
 handed_on_stands = handed_well
@@ -59,6 +59,6 @@ pub refused-close_unchanged : RefusedCloseUnchanged
 unfolding reader_call
 refused-close_unchanged r why e = go (calls r close) (ap close_reply e)
   where
-    go : {x : Reader × Reply} → Calls r close x → x.1 ≡ close_reply (closed_as.Refused why) → x.0 ≡ r
+    go : {x : Reader × Reply} → Calls r close x → x.1 ≡ close_reply (Err why) → x.0 ≡ r
     go (refuses_close w f) d = refl
     go closes d = zero_one (unfold close_reply in cc)

@@ -1,6 +1,9 @@
 -- What a feeding consumes, by `outcome` of Appending; how a close finds the stream; the length that a report tells. Assumes nothing.
+use Rattle.std.specs.Prelude.{Option, Result, Ok, Err}
+use Rattle.opening.specs.declared.Report.{Report}
+use Rattle.refusals.specs.declared.Refusal.{Refusal}
 use Rattle.walks.proofs.Words.{inl, inr, append-nil, append_assoc, ◌≡◌, refl, sym, ap, ◌∙◌, subst, ℕ, arith, List, [], ◌∷◌, ◌++◌, length, take, take_all}
-use Rattle.capsule_laws.proofs.Terms.{in_type, Capsule, Parts, parts_for, Taken, append, ended_by, end_of, Book, new_book, book_verdict, book_feed, book_close, book_call, Call, Reply, fed, closed, run, Ended, Verdict, Accepted, Refused, consumed_by, consumed_in, length_of, Opening, zero_one, Consumes, ConsumedExactly, EndExactly, UpTo, FedExactly, StreamConsumed, ClosesExactly, LengthTold}
+use Rattle.capsule_laws.proofs.Terms.{in_type, Capsule, Parts, parts_for, Taken, append, ended_by, end_of, Book, new_book, book_verdict, book_feed, book_close, book_call, Call, Reply, fed, closed, run, consumed_by, consumed_in, length_of, Opening, zero_one, Consumes, ConsumedExactly, EndExactly, UpTo, FedExactly, StreamConsumed, ClosesExactly, LengthTold}
 use Rattle.capsule_laws.proofs.{Graphs.Books, Graphs.refuses_feed, Graphs.takes_feed, Graphs.refuses_end, Graphs.closes_book, Graphs.books, Appending.one, Appending.Outcome, Appending.goes, Appending.ends, Appending.outcome, Appending.parts_goes, Appending.parts-ends}
 
 by_outcome : (op : Opening) (s p : List ℕ) (k : Taken) → Outcome op s p k → Consumes op s p k
@@ -27,7 +30,7 @@ end_exactly (b ∷ r) = ((λ e. zero_one (cc e), λ e. zero_one (cc e)), (λ e h
 
 -- ---- the book's own calls
 
-module _ (op : Opening) (s p : List ℕ) (consumed : ℕ) (e : Ended) where
+module _ (op : Opening) (s p : List ℕ) (consumed : ℕ) (e : Option Report) where
   up_to : (k : Taken) → k.consumed ≡ consumed → ended_by op k.capsule ≡ e → Outcome op s p k → UpTo op s p consumed e
   unfolding ended_by
   up_to k a x (goes y v g) =
@@ -46,9 +49,9 @@ pub fed_exactly : FedExactly
 unfolding book_call
 fed_exactly k p b consumed written w e payload q = go (book_verdict k p b) q
   where
-    go : (v : Verdict) → (book_feed k p v).1 ≡ fed consumed written w e payload → UpTo k.opening k.stream p consumed e
-    go (Refused r) d = zero_one (unfold book_feed in cc)
-    go Accepted d =
+    go : (v : (Result (Unit {0}) Refusal)) → (book_feed k p v).1 ≡ fed consumed written w e payload → UpTo k.opening k.stream p consumed e
+    go (Err r) d = zero_one (unfold book_feed in cc)
+    go (Ok tt) d =
         let a : (append k.opening k.stream p).consumed ≡ consumed = unfold book_feed in cc in
         let x : ended_by k.opening (append k.opening k.stream p).capsule ≡ e = unfold book_feed in cc in
         up_to k.opening k.stream p consumed e (append k.opening k.stream p) a x (outcome k.opening p k.stream)

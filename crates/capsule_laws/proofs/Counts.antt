@@ -1,9 +1,10 @@
 -- How many capsules a reader reports, whatever buffers are lent. Assumes nothing.
+use Rattle.std.specs.Prelude.{Ok}
 use Rattle.walks.proofs.Words.{◌≡◌, ap, ℕ, arith, Bool, false, List, [], length}
-use Rattle.capsule_laws.proofs.Terms.{Role, Opening, Ready, Reader, Parts, parts, Call, Reply, run, parts_for, opening, open_of, reader_call, AllBytes, consumed_in, reports}
+use Rattle.capsule_laws.proofs.Terms.{Role, Opening, Reader, Parts, parts, Call, Reply, run, parts_for, opening, open_of, reader_call, AllBytes, consumed_in, reports}
 use Rattle.capsule_laws.proofs.{Appending.for_nil, Plain.read_plain, States.made_calls}
 
-module _ (role : Role) (limit : ℕ) (draft addresses : Bool) (r : Reader) (e : open_of role limit draft addresses ≡ Ready r) (cs : List Call) (h : AllBytes cs) where
+module _ (role : Role) (limit : ℕ) (draft addresses : Bool) (r : Reader) (e : open_of role limit draft addresses ≡ Ok r) (cs : List Call) (h : AllBytes cs) where
   abbrev op : Opening
   op = opening role limit draft addresses
 

@@ -1,6 +1,8 @@
 -- What a feeding adds to the forwarded bytes. Assumes nothing.
+use Rattle.std.specs.Prelude.{Some, None}
+use Rattle.short_forms.specs.Short.{varint_of}
 use Rattle.walks.proofs.Words.{◌≡◌, refl, sym, ap, ◌∙◌, subst, ℕ, ◌+◌, ◌-◌, ◌<◌, arith, Bool, true, false, List, [], ◌∷◌, ◌++◌, append_assoc, append-nil, length, take, drop, take-length, take-append-add}
-use Rattle.capsule_laws.proofs.Terms.{Incomplete, Whole, Bytes, bytes_of, read_varint, held_bytes, reads, whole_incomplete, held_partial, Opening, Extent, Stage, in_type, in_length, in_value, Front, part, whole, front_by, Capsule, capsule_at, Parts, extent_of, forwards, parts_for, only_if, from_capsules, from_tail, from_parts, forwarded, phase_at, plan_head, held_of, wrote, ForwardedGrows}
+use Rattle.capsule_laws.proofs.Terms.{whole_same, Bytes, bytes_of, read_varint, held_bytes, reads, whole_incomplete, held_partial, Opening, Extent, Stage, in_type, in_length, in_value, Front, part, whole, front_by, Capsule, capsule_at, Parts, extent_of, forwards, parts_for, only_if, from_capsules, from_tail, from_parts, forwarded, phase_at, plan_head, held_of, wrote, ForwardedGrows}
 use Rattle.capsule_laws.proofs.{Grammar.Sees, Grammar.sees_type, Grammar.sees_length, Grammar.sees_value, Grammar.sees_whole, Grammar.part_none, Appending.one, Appending.Shows, Appending.shows, Appending.for_append, Appending.for_part, Appending.for_next, Appending.tail_shows, Appending.for_bytes, Appending.parts_goes, Appending.parts-ends, Plans.plan_at}
 
 -- ---- lists
@@ -27,15 +29,15 @@ pub data Typed (t : ℕ) : Stage → Type 0 where
   before : {j : ℕ} → Typed t (in_length t j)
   within : {n j : ℕ} → Typed t (in_value t n j)
 
-pub typed : {ext : Extent} (r p : List ℕ) (x : Stage) (t j : ℕ) → Sees ext r (part x) → read_varint (r ++ p) ≡ Whole t j → Typed t x
+pub typed : {ext : Extent} (r p : List ℕ) (x : Stage) (t j : ℕ) → Sees ext r (part x) → read_varint (r ++ p) ≡ Some (varint_of t j) → Typed t x
 typed r p x t j (sees_type e) d = none
 typed r p x t j (sees_length {t = u} {j = i} e f) d =
     let a = (reads r u i e).stays p in
-    let b : u ≡ t = cc in
+    let b : u ≡ t = (whole_same (sym a ∙ d)).0 in
     subst (λ (y : ℕ). Typed t (in_length y i)) (sym b) before
 typed r p x t j (sees_value {t = u} {j = i} {n = n} {k = k} e f h) d =
     let a = (reads r u i e).stays p in
-    let b : u ≡ t = cc in
+    let b : u ≡ t = (whole_same (sym a ∙ d)).0 in
     subst (λ (y : ℕ). Typed t (in_value y n (i + k))) (sym b) within
 
 -- the type that a front shows
@@ -43,7 +45,7 @@ pub typed_front : {ext : Extent} (r p : List ℕ) (x : Stage) (t n j : ℕ) → 
 typed_front r p x t n j v (sees_whole {j = i} e d h) = typed r p x t i v e
 
 -- while no type is complete nothing is forwarded of the tail
-nothing_yet : (op : Opening) (r p : List ℕ) (x : Stage) → Shows op r (part x) → read_varint (r ++ p) ≡ Incomplete → from_tail op r x ≡ []
+nothing_yet : (op : Opening) (r p : List ℕ) (x : Stage) → Shows op r (part x) → read_varint (r ++ p) ≡ None → from_tail op r x ≡ []
 unfolding from_tail
 nothing_yet op r p x (sees_type e) d = refl
 nothing_yet op r p x (sees_length {t = t} {j = j} e f) d = whole_incomplete ((reads r t j e).stays p) d
@@ -85,7 +87,7 @@ module _ (op : Opening) (s : List ℕ) where
         ∙ sym (append_assoc (from_capsules op (parts_for op s).capsules) (from_tail op r x) _)
         ∙ ap (λ (l : List ℕ). (from_capsules op (parts_for op s).capsules ++ from_tail op r x) ++ only_if (forwards op t) (held_bytes (held_of (phase_at op r x)) ++ l)) (sym all)
 
-    goes_untyped : read_varint (r ++ q) ≡ Incomplete → forwarded op (s ++ q) ≡ forwarded op s ++ wrote false (held_of (phase_at op r x)) (length q) q
+    goes_untyped : read_varint (r ++ q) ≡ None → forwarded op (s ++ q) ≡ forwarded op s ++ wrote false (held_of (phase_at op r x)) (length q) q
     unfolding forwarded from_parts wrote only_if from_tail
     goes_untyped e =
         let n : from_tail op r x ≡ [] = nothing_yet op r q x (tail_shows op s) e in
@@ -134,21 +136,21 @@ module _ (op : Opening) (r y : List ℕ) (t : ℕ) (f : forwards op t ≡ true) 
       (take (j + extent_of op t n - length r) y ++ rest, rw (for_next op (r ++ y) t n j v, f, only_if, b, append_assoc, append_assoc))
 
   -- whatever stands at the front is of the same type
-  shown : (j : ℕ) (x : Stage) → Shows op r (part x) → read_varint (r ++ y) ≡ Whole t j → (z : Front) → Shows op (r ++ y) z → Grown
+  shown : (j : ℕ) (x : Stage) → Shows op r (part x) → read_varint (r ++ y) ≡ Some (varint_of t j) → (z : Front) → Shows op (r ++ y) z → Grown
   unfolding from_tail only_if
   shown j x v e z (sees_type d) = whole_incomplete e d
   shown j x v e z (sees_length {t = u} {j = i} d g) =
-      let a : u ≡ t = cc in
+      let a : u ≡ t = (whole_same (sym d ∙ e)).0 in
       tail-grown (in_length u i) (sees_length d g) (rw (a, f, only_if))
   shown j x v e z (sees_value {t = u} {j = i} {n = n} {k = k} d g h) =
-      let a : u ≡ t = cc in
+      let a : u ≡ t = (whole_same (sym d ∙ e)).0 in
       tail-grown (in_value u n (i + k)) (sees_value d g h) (rw (a, f, only_if))
   shown j x v e z (sees_whole {t = u} {j = i} {n = n} {k = k} d g h) =
-      let a : u ≡ t = cc in
+      let a : u ≡ t = (whole_same (sym d ∙ e)).0 in
       let w : Shows op (r ++ y) (whole t n (i + k)) = subst (λ (b : ℕ). Shows op (r ++ y) (whole b n (i + k))) a (sees_whole d g h) in
       capsule_typed n (i + k) w (part_none r x y t n (i + k) v w)
 
-typed_grows : (op : Opening) (r y : List ℕ) (t j : ℕ) (x : Stage) → Shows op r (part x) → read_varint (r ++ y) ≡ Whole t j
+typed_grows : (op : Opening) (r y : List ℕ) (t j : ℕ) (x : Stage) → Shows op r (part x) → read_varint (r ++ y) ≡ Some (varint_of t j)
     → (w : List ℕ) × (forwarded op (r ++ y) ≡ only_if (forwards op t) r ++ w)
 unfolding only_if Grown
 typed_grows op r y t j x v e = go (forwards op t) refl

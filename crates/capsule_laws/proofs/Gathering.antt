@@ -1,6 +1,8 @@
 -- Each of the two buffers for values holds the value bytes that came. Assumes nothing.
+use Rattle.std.specs.Prelude.{Some}
+use Rattle.short_forms.specs.Short.{varint_of}
 use Rattle.walks.proofs.Words.{◌≡◌, refl, sym, ap, ◌∙◌, subst, ℕ, ◌+◌, ◌-◌, ◌≤◌, arith, Bool, true, false, cond, List, [], ◌++◌, append-nil, length, take, drop, length-append, length-drop, take-length, drop-nil, take_at, drop-append-le, length-take-le, sets, sets-eq, leb}
-use Rattle.capsule_laws.proofs.Terms.{Whole, read_varint, split, reads, Opening, Role, Endpoint, Intermediary, Kind, Datagram, Address, Unknown, Report, Delivered, Dropped, AddressDelivered, Malformed, Plan, Extent, Stage, in_value, part, whole, longest_address_value, well_formed, kind_of, opted, extent_of, report_by, report_of, judged, only_delivered, gathers_by, gathers, keeps_by, keeps, length_of, stored, StandsAt, gathers_limit, keeps_limit, keeps-opted}
+use Rattle.capsule_laws.proofs.Terms.{whole_same, read_varint, split, reads, Opening, Role, Endpoint, Intermediary, Kind, Datagram, Address, Unknown, Report, Delivered, Dropped, AddressDelivered, Malformed, Plan, Extent, Stage, in_value, part, whole, longest_address_value, well_formed, kind_of, opted, extent_of, report_by, report_of, judged, only_delivered, gathers_by, gathers, keeps_by, keeps, length_of, stored, StandsAt, gathers_limit, keeps_limit, keeps-opted}
 use Rattle.capsule_laws.proofs.{Grammar.Sees, Grammar.sees_type, Grammar.sees_length, Grammar.sees_value, Grammar.sees_whole, Grammar.head_stays, Grammar.head_fits, Grammar.drop-take, Appending.Shows, Plans.plan_at, Plans.longer, Plans.drop_past}
 
 -- ---- lists
@@ -48,25 +50,26 @@ empty_front g r j h =
 
 module _ (ext : Extent) (stores : ℕ → ℕ → Bool) (r p g : List ℕ) where
   stood : (x : Stage) (t i n k : ℕ) → Sees ext r (part x) → StandsAt stores r x g
-      → read_varint (r ++ p) ≡ Whole t i → read_varint (drop i (r ++ p)) ≡ Whole n k → stores t n ≡ true → take (length r - (i + k)) g ≡ drop (i + k) r
+      → read_varint (r ++ p) ≡ Some (varint_of t i) → read_varint (drop i (r ++ p)) ≡ Some (varint_of n k) → stores t n ≡ true → take (length r - (i + k)) g ≡ drop (i + k) r
   stood x t i n k (sees_type e) s a b h = empty_front g r (i + k) (omega (arith, longer r p t i e a))
   stood x t i n k (sees_length {t = u} {j = j} e d) s a b h =
       let f = reads r u j e in
-      let y : j ≡ i = cc (f.stays p) in
-      let c : read_varint (drop j r ++ p) ≡ Whole n k = rw (← (drop-append-le j r p f.fits), y) b in
+      let y : j ≡ i = (whole_same (sym (f.stays p) ∙ a)).1 in
+      let c : read_varint (drop j r ++ p) ≡ Some (varint_of n k) = rw (← (drop-append-le j r p f.fits), y) b in
       empty_front g r (i + k) (omega (arith, longer (drop j r) p n k d c, length-drop j r, f.fits))
   stood x t i n k (sees_value {t = u} {j = j} {n = m} {k = l} e d h) s a b v =
       let f = head_stays r e d p in
-      let y : j ≡ i = cc f.0 in
-      let z : u ≡ t = cc f.0 in
-      let f' : read_varint (drop i (r ++ p)) ≡ Whole m l = subst (λ (y : ℕ). read_varint (drop y (r ++ p)) ≡ Whole m l) y f.1 in
-      let b' : m ≡ n = cc in
-      let c : l ≡ k = cc in
+      let same = whole_same (sym f.0 ∙ a) in
+      let y : j ≡ i = same.1 in
+      let z : u ≡ t = same.0 in
+      let f' : read_varint (drop i (r ++ p)) ≡ Some (varint_of m l) = subst (λ (y : ℕ). read_varint (drop y (r ++ p)) ≡ Some (varint_of m l)) y f.1 in
+      let b' : m ≡ n = (whole_same (sym f' ∙ b)).0 in
+      let c : l ≡ k = (whole_same (sym f' ∙ b)).1 in
       rw (← y, ← c) (s (rw (z, b') v))
 
   module _ (x : Stage) (v : Sees ext r (part x)) (s : StandsAt stores r x g) (big : (t n : ℕ) → stores t n ≡ true → ext t n ≤ length g) where
     -- the value that begins at i + k, of which the piece's first c bytes came
-    came : (t i n k c : ℕ) → read_varint (r ++ p) ≡ Whole t i → read_varint (drop i (r ++ p)) ≡ Whole n k → stores t n ≡ true
+    came : (t i n k c : ℕ) → read_varint (r ++ p) ≡ Some (varint_of t i) → read_varint (drop i (r ++ p)) ≡ Some (varint_of n k) → stores t n ≡ true
         → c ≤ length p → i + k ≤ length r + c → length r + c - (i + k) ≤ ext t n
         → take (length r + c - (i + k)) (stored (stores t n) (i + k - length r) c (length r - (i + k)) p g) ≡ drop (i + k) (r ++ take c p)
     came t i n k c a b h l f u =

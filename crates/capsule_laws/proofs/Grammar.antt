@@ -1,14 +1,16 @@
 -- The grammar: its graph, and what more bytes do to it. Assumes nothing.
+use Rattle.std.specs.Prelude.{Option, Some, None}
+use Rattle.short_forms.specs.Short.{varint_of}
 use Rattle.walks.proofs.Words.{◌≡◌, refl, sym, ◌∙◌, ℕ, zero, suc, ◌+◌, ◌≤◌, ◌<◌, arith, le_refl, not-suc-le-zero, List, [], ◌∷◌, ◌++◌, append_assoc, length, take, drop, length-append, length-drop, take-append-drop, take-append-le, drop-append-le, take_all, take-length, drop-length, take-take, take-nil, length-take-le, le-leb, lt-leb}
-use Rattle.capsule_laws.proofs.Terms.{Varint, Incomplete, Whole, Bytes, read_varint, bytes_drop, split, reads, read_nil, incomplete_lt, Extent, Stage, in_type, in_length, in_value, Front, part, whole, front_by, capsule_at, Parts, ahead, cut_by, parts_by, joined, ReadsAs, AllRead, SplitRight, HeldAtMostSeven}
+use Rattle.capsule_laws.proofs.Terms.{Varint, Bytes, read_varint, bytes_drop, split, reads, read_nil, incomplete_lt, Extent, Stage, in_type, in_length, in_value, Front, part, whole, front_by, capsule_at, Parts, ahead, cut_by, parts_by, joined, ReadsAs, AllRead, SplitRight, HeldAtMostSeven}
 
 -- ---- the graph of `front`: what stands there, and what it rests on
 
 pub data Sees (ext : Extent) (s : List ℕ) : Front → Type 0 where
-  sees_type : read_varint s ≡ Incomplete → Sees ext s (part in_type)
-  sees_length : {t j : ℕ} → read_varint s ≡ Whole t j → read_varint (drop j s) ≡ Incomplete → Sees ext s (part (in_length t j))
-  sees_value : {t j n k : ℕ} → read_varint s ≡ Whole t j → read_varint (drop j s) ≡ Whole n k → length s < j + k + ext t n → Sees ext s (part (in_value t n (j + k)))
-  sees_whole : {t j n k : ℕ} → read_varint s ≡ Whole t j → read_varint (drop j s) ≡ Whole n k → j + k + ext t n ≤ length s → Sees ext s (whole t n (j + k))
+  sees_type : read_varint s ≡ None → Sees ext s (part in_type)
+  sees_length : {t j : ℕ} → read_varint s ≡ Some (varint_of t j) → read_varint (drop j s) ≡ None → Sees ext s (part (in_length t j))
+  sees_value : {t j n k : ℕ} → read_varint s ≡ Some (varint_of t j) → read_varint (drop j s) ≡ Some (varint_of n k) → length s < j + k + ext t n → Sees ext s (part (in_value t n (j + k)))
+  sees_whole : {t j n k : ℕ} → read_varint s ≡ Some (varint_of t j) → read_varint (drop j s) ≡ Some (varint_of n k) → j + k + ext t n ≤ length s → Sees ext s (whole t n (j + k))
 
 pub front_is : {ext : Extent} {s : List ℕ} {x : Front} → Sees ext s x → front_by ext s ≡ x
 unfolding front_by
@@ -23,17 +25,17 @@ sees ext s = first (read_varint s) refl
     is : {x : Front} → Sees ext s x → Sees ext s (front_by ext s)
     is v = rw (front_is v) v
 
-    second : (t j : ℕ) → read_varint s ≡ Whole t j → (r : Varint) → read_varint (drop j s) ≡ r → Sees ext s (front_by ext s)
-    second t j e Incomplete d = is (sees_length e d)
-    second t j e (Whole n k) d = split (j + k + ext t n) (length s) (λ h. is (sees_whole e d h)) (λ h. is (sees_value e d h))
+    second : (t j : ℕ) → read_varint s ≡ Some (varint_of t j) → (r : Option Varint) → read_varint (drop j s) ≡ r → Sees ext s (front_by ext s)
+    second t j e None d = is (sees_length e d)
+    second t j e (Some read) d = split (j + read.size + ext t read.value) (length s) (λ h. is (sees_whole e d h)) (λ h. is (sees_value e d h))
 
-    first : (r : Varint) → read_varint s ≡ r → Sees ext s (front_by ext s)
-    first Incomplete e = is (sees_type e)
-    first (Whole t j) e = second t j e (read_varint (drop j s)) refl
+    first : (r : Option Varint) → read_varint s ≡ r → Sees ext s (front_by ext s)
+    first None e = is (sees_type e)
+    first (Some read) e = second read.value read.size e (read_varint (drop read.size s)) refl
 
 -- a head that is there stays, whatever follows
-module _ (s : List ℕ) {t j n k : ℕ} (e : read_varint s ≡ Whole t j) (d : read_varint (drop j s) ≡ Whole n k) where
-  pub head_stays : (r : List ℕ) → (read_varint (s ++ r) ≡ Whole t j) × (read_varint (drop j (s ++ r)) ≡ Whole n k)
+module _ (s : List ℕ) {t j n k : ℕ} (e : read_varint s ≡ Some (varint_of t j)) (d : read_varint (drop j s) ≡ Some (varint_of n k)) where
+  pub head_stays : (r : List ℕ) → (read_varint (s ++ r) ≡ Some (varint_of t j)) × (read_varint (drop j (s ++ r)) ≡ Some (varint_of n k))
   head_stays r =
       let a = reads s t j e in
       (a.stays r, rw (drop-append-le j s r a.fits) ((reads (drop j s) n k d).stays r))
@@ -149,12 +151,12 @@ whole-alone {ext} s t n i (sees_whole {j = j} {k = k} e d h) =
     let x = ext t n in
     let m : k + x ≤ length (drop j s) = omega (arith, length-drop j s) in
     let c : j + k + x ≡ j + (k + x) = omega arith in
-    let type : read_varint (take (j + k + x) s) ≡ Whole t j = longer s t j (j + k + x) e (omega arith) in
-    let length : read_varint (drop j (take (j + k + x) s)) ≡ Whole n k = rw (c, drop-take j (k + x) s) (longer (drop j s) n k (k + x) d (omega arith)) in
+    let type : read_varint (take (j + k + x) s) ≡ Some (varint_of t j) = longer s t j (j + k + x) e (omega arith) in
+    let length : read_varint (drop j (take (j + k + x) s)) ≡ Some (varint_of n k) = rw (c, drop-take j (k + x) s) (longer (drop j s) n k (k + x) d (omega arith)) in
     sees_whole type length (omega (arith, length-take-le (j + k + x) s h))
   where
     -- a varint is read from any front that has all of it
-    longer : (l : List ℕ) (v k m : ℕ) → read_varint l ≡ Whole v k → k ≤ m → read_varint (take m l) ≡ Whole v k
+    longer : (l : List ℕ) (v k m : ℕ) → read_varint l ≡ Some (varint_of v k) → k ≤ m → read_varint (take m l) ≡ Some (varint_of v k)
     longer l v k m e h =
         let f = reads l v k e in
         rw (← (take-append-drop k (take m l)), take-take k m l h) ((reads (take k l) v k f.alone).stays (drop k (take m l)))
@@ -198,7 +200,7 @@ split_right ext s = record {
   capsules_read = cut_read (parts_cut ext s);
 }
 
-sees_type_lem : {ext : Extent} (r : List ℕ) (x : Stage) → Sees ext r (part x) → x ≡ in_type → read_varint r ≡ Incomplete
+sees_type_lem : {ext : Extent} (r : List ℕ) (x : Stage) → Sees ext r (part x) → x ≡ in_type → read_varint r ≡ None
 sees_type_lem r x (sees_type e) i = e
 sees_type_lem r x (sees_length e d) i = let z : ◌≡◌ {A = ℕ} 0 1 = cc in absurd (let n : ⊥ = omega arith in n)
 sees_type_lem r x (sees_value e d h) i = let z : ◌≡◌ {A = ℕ} 0 1 = cc in absurd (let n : ⊥ = omega arith in n)

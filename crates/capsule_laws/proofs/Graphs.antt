@@ -1,7 +1,7 @@
 -- The graphs of a report, of a verdict, and of one call on a reader and on the book: every outcome with what it rests on. Assumes nothing.
-use Rattle.walks.proofs.Words.{◌≡◌, refl, sym, ◌∙◌, subst, eqb, ℕ, ◌+◌, ◌≤◌, ◌<◌, arith, Bool, true, false, cond, ◌&&◌, List, length, leb, le-leb, lt-leb}
-use Rattle.capsule_laws.proofs.Terms.{Refusal, unmakeable_state, finished, gathering_too_short, addresses_too_short, output_too_short, split, longest_address_value, well_formed, Role, Endpoint, Intermediary, Kind, Datagram, Address, Unknown, Opening, Report, Delivered, Dropped, Skipped, Passed, AddressDelivered, Malformed, opted, kind_of, report_by, report_of, judged, Phase, InType, InLength, InValue, Reader, Closed, Verdict, Accepted, Refused, Lent, Call, feed, close, Reply, refused, closed, output_verdict, addresses_verdict, lent_verdict, parts_for, Book, book_verdict, book_feed, end_of, book_close, book_call, is_makeable, verdict_of, take_of, feed_by, feed_of, end_at, closing, close_of, feed_reply, close_reply, reader_call, zero_one, no_true, accepted_makeable, gathering-short, addresses-short}
-use Rattle.capsule.specs.declared.reader.CloseAnswer.TheVariants as closed_as
+use Rattle.std.specs.Prelude.{Result, Ok, Err}
+use Rattle.walks.proofs.Words.{◌≡◌, refl, sym, ◌∙◌, subst, ℕ, ◌+◌, ◌≤◌, ◌<◌, arith, Bool, true, false, cond, ◌&&◌, List, length, leb, le-leb, lt-leb}
+use Rattle.capsule_laws.proofs.Terms.{Refusal, unmakeable_state, finished, gathering_too_short, addresses_too_short, output_too_short, split, longest_address_value, well_formed, Role, Endpoint, Intermediary, Kind, Datagram, Address, Unknown, Opening, Report, Delivered, Dropped, Skipped, Passed, AddressDelivered, Malformed, opted, kind_of, report_by, report_of, judged, Phase, Reader, Closed, Lent, Call, feed, close, Reply, refused, closed, output_verdict, addresses_verdict, lent_verdict, parts_for, Book, book_verdict, book_feed, end_of, book_close, book_call, is_makeable, verdict_of, take_of, feed_by, feed_of, end_at, closing, close_of, feed_reply, close_reply, reader_call, zero_one, no_true, accepted_makeable, gathering-short, addresses-short}
 
 -- ---- what an ended capsule of type t, length n and value v reports
 
@@ -51,16 +51,16 @@ reports_of op t n v = go (kind_of op t) refl
 
 -- ---- the verdict on what is lent
 
-pub data Lends (op : Opening) (piece gathering addresses output : ℕ) : Verdict → Type 0 where
-  short_gathering : gathering < op.limit → Lends op piece gathering addresses output (Refused gathering_too_short)
-  short_addresses : op.limit ≤ gathering → opted op ≡ true → addresses < longest_address_value → Lends op piece gathering addresses output (Refused addresses_too_short)
-  short_output : Lends op piece gathering addresses output (Refused output_too_short)
-  enough : Lends op piece gathering addresses output Accepted
+pub data Lends (op : Opening) (piece gathering addresses output : ℕ) : (Result (Unit {0}) Refusal) → Type 0 where
+  short_gathering : gathering < op.limit → Lends op piece gathering addresses output (Err gathering_too_short)
+  short_addresses : op.limit ≤ gathering → opted op ≡ true → addresses < longest_address_value → Lends op piece gathering addresses output (Err addresses_too_short)
+  short_output : Lends op piece gathering addresses output (Err output_too_short)
+  enough : Lends op piece gathering addresses output (Ok tt)
 
 pub lends : (op : Opening) (piece gathering addresses output : ℕ) → Lends op piece gathering addresses output (lent_verdict op piece gathering addresses output)
 lends op piece g a o = split op.limit g (λ h. by_addresses h (opted op) refl) (λ h. rw (← (gathering-short op piece g a o h)) (short_gathering h))
   where
-    room : (t : Bool) → Lends op piece g a o (cond t Accepted (Refused output_too_short))
+    room : (t : Bool) → Lends op piece g a o (cond t (Ok tt) (Err output_too_short))
     room true = enough
     room false = short_output
 
@@ -75,62 +75,57 @@ lends op piece g a o = split op.limit g (λ h. by_addresses h (opted op) refl) (
     by_addresses h false e = unfold lent_verdict addresses_verdict in rw (le-leb op.limit g h, e) (by_output op.role)
 
 -- a refusal other than 1
-abbrev pub Fine : Verdict → Type 0
-Fine Accepted = Unit {0}
-Fine (Refused r) = r.0 ≡ 1 → ⊥
+abbrev pub Fine : (Result (Unit {0}) Refusal) → Type 0
+Fine (Ok tt) = Unit {0}
+Fine (Err r) = r.0 ≡ 1 → ⊥
 
-lent_fine : {op : Opening} {piece gathering addresses output : ℕ} {v : Verdict} → Lends op piece gathering addresses output v → Fine v
+lent_fine : {op : Opening} {piece gathering addresses output : ℕ} {v : (Result (Unit {0}) Refusal)} → Lends op piece gathering addresses output v → Fine v
 lent_fine (short_gathering h) = λ z. omega arith
 lent_fine (short_addresses h o l) = λ z. omega arith
 lent_fine short_output = λ z. omega arith
 lent_fine enough = tt
 
 -- behind the mark, of a book or of a reader
-marked_fine : (m : Bool) (op : Opening) (piece gathering addresses output : ℕ) → Fine (cond m (Refused finished) (lent_verdict op piece gathering addresses output))
+marked_fine : (m : Bool) (op : Opening) (piece gathering addresses output : ℕ) → Fine (cond m (Err finished) (lent_verdict op piece gathering addresses output))
 marked_fine true op piece g a o = λ z. omega arith
 marked_fine false op piece g a o = lent_fine (lends op piece g a o)
 
-pub unmarked : (m : Bool) (v : Verdict) → cond m (Refused finished) v ≡ Accepted → m ≡ false
+pub unmarked : (m : Bool) (v : (Result (Unit {0}) Refusal)) → cond m (Err finished) v ≡ (Ok tt) → m ≡ false
 unmarked true v e = zero_one (cc)
 unmarked false v e = refl
 
 -- ---- one call on a reader
 
-abbrev pub verdict_on : Reader → List ℕ → Lent → Verdict
+abbrev pub verdict_on : Reader → List ℕ → Lent → Result (Unit {0}) Refusal
 verdict_on r p b = verdict_of r (length p) (length b.gathering) (length b.addresses) (length b.output)
 
 pub data Calls (r : Reader) : Call → Reader × Reply → Type 0 where
   refuses_piece : {p : List ℕ} {b : Lent} (why : Refusal) → (is_makeable r ≡ true → why.0 ≡ 1 → ⊥) → Calls r (feed p b) (r, refused why)
-  takes_piece : {p : List ℕ} {b : Lent} → verdict_on r p b ≡ Accepted → r.finished ≡ false → Calls r (feed p b) ((take_of r p b).reader, feed_reply (take_of r p b).answer (take_of r p b).buffers)
+  takes_piece : {p : List ℕ} {b : Lent} → verdict_on r p b ≡ (Ok tt) → r.finished ≡ false → Calls r (feed p b) ((take_of r p b).reader, feed_reply (take_of r p b).answer (take_of r p b).buffers)
   refuses_close : (why : Refusal) → (is_makeable r ≡ true → why.0 ≡ 1 → ⊥) → Calls r close (r, refused why)
   closes : Calls r close (record { opening = r.opening; phase = r.phase; finished = true }, closed (end_at r.phase))
 
-pub close_reply_lem : (x : Phase) → close_reply (end_at x) ≡ closed (end_at x)
-close_reply_lem (InType part) = unfold end_at in go (eqb part.have 0)
-  where
-    go : (b : Bool) → close_reply (cond b closed_as.Clean closed_as.Truncated) ≡ closed (cond b closed_as.Clean closed_as.Truncated)
-    go true = unfold close_reply in refl
-    go false = unfold close_reply in refl
-close_reply_lem (InLength t part) = unfold end_at close_reply in refl
-close_reply_lem (InValue t n left) = unfold end_at close_reply in refl
+pub close_reply_lem : (x : Phase) → close_reply (Ok (end_at x)) ≡ closed (end_at x)
+unfolding close_reply
+close_reply_lem x = refl
 
-live : (r : Reader) (piece gathering addresses output : ℕ) → verdict_of r piece gathering addresses output ≡ Accepted → r.finished ≡ false
+live : (r : Reader) (piece gathering addresses output : ℕ) → verdict_of r piece gathering addresses output ≡ (Ok tt) → r.finished ≡ false
 unfolding verdict_of
 live r piece g a o e = unmarked r.finished _ (rw (accepted_makeable r piece g a o e) at e)
 
 pub calls : (r : Reader) (c : Call) → Calls r c (reader_call r c)
 calls r (feed p b) = unfold reader_call feed_of in go (verdict_on r p b) refl
   where
-    fine : (v : Verdict) → verdict_on r p b ≡ v → is_makeable r ≡ true → Fine v
+    fine : (v : (Result (Unit {0}) Refusal)) → verdict_on r p b ≡ v → is_makeable r ≡ true → Fine v
     fine v e m = subst Fine e (unfold verdict_of in rw m (marked_fine r.finished r.opening _ _ _ _))
 
-    go : (v : Verdict) → verdict_on r p b ≡ v → Calls r (feed p b) ((feed_by r p b v).reader, feed_reply (feed_by r p b v).answer (feed_by r p b v).buffers)
-    go (Refused why) e = unfold feed_by feed_reply in refuses_piece why (fine (Refused why) e)
-    go Accepted e = unfold feed_by in takes_piece e (live r _ _ _ _ e)
+    go : (v : (Result (Unit {0}) Refusal)) → verdict_on r p b ≡ v → Calls r (feed p b) ((feed_by r p b v).reader, feed_reply (feed_by r p b v).answer (feed_by r p b v).buffers)
+    go (Err why) e = unfold feed_by feed_reply in refuses_piece why (fine (Err why) e)
+    go (Ok tt) e = unfold feed_by in takes_piece e (live r _ _ _ _ e)
 calls r close = unfold reader_call close_of in go (is_makeable r) refl r.finished
   where
     after : Bool → Bool → Closed
-    after m f = cond m (cond f (closing r (closed_as.Refused finished)) (closing (record { opening = r.opening; phase = r.phase; finished = true }) (end_at r.phase))) (closing r (closed_as.Refused unmakeable_state))
+    after m f = cond m (cond f (closing r (Err finished)) (closing (record { opening = r.opening; phase = r.phase; finished = true }) (Ok (end_at r.phase)))) (closing r (Err unmakeable_state))
 
     go : (m : Bool) → is_makeable r ≡ m → (f : Bool) → Calls r close ((after m f).reader, close_reply (after m f).answer)
     go true m true = unfold close_reply in refuses_close finished (λ h z. omega arith)
@@ -141,16 +136,16 @@ calls r close = unfold reader_call close_of in go (is_makeable r) refl r.finishe
 
 pub data Books (k : Book) : Call → Book × Reply → Type 0 where
   refuses_feed : {p : List ℕ} {b : Lent} (why : Refusal) → (why.0 ≡ 1 → ⊥) → Books k (feed p b) (k, refused why)
-  takes_feed : {p : List ℕ} {b : Lent} → book_verdict k p b ≡ Accepted → Books k (feed p b) (book_feed k p Accepted)
+  takes_feed : {p : List ℕ} {b : Lent} → book_verdict k p b ≡ (Ok tt) → Books k (feed p b) (book_feed k p (Ok tt))
   refuses_end : k.mark ≡ true → Books k close (k, refused finished)
   closes_book : k.mark ≡ false → Books k close (record { opening = k.opening; stream = k.stream; mark = true }, closed (end_of (parts_for k.opening k.stream).tail))
 
 pub books : (k : Book) (c : Call) → Books k c (book_call k c)
 books k (feed p b) = unfold book_call in go (book_verdict k p b) refl
   where
-    go : (v : Verdict) → book_verdict k p b ≡ v → Books k (feed p b) (book_feed k p v)
-    go (Refused why) e = unfold book_feed in refuses_feed why (subst Fine e (unfold book_verdict in marked_fine k.mark k.opening _ _ _ _))
-    go Accepted e = takes_feed e
+    go : (v : (Result (Unit {0}) Refusal)) → book_verdict k p b ≡ v → Books k (feed p b) (book_feed k p v)
+    go (Err why) e = unfold book_feed in refuses_feed why (subst Fine e (unfold book_verdict in marked_fine k.mark k.opening _ _ _ _))
+    go (Ok tt) e = takes_feed e
 books k close = unfold book_call in go k.mark refl
   where
     go : (m : Bool) → k.mark ≡ m → Books k close (book_close k m)

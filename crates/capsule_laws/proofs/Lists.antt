@@ -1,7 +1,8 @@
 -- Demand 3: every list of calls. Assumes nothing.
-use Rattle.walks.proofs.Words.{◌≡◌, refl, sym, ap, ◌∙◌, subst, ℕ, suc, ◌+◌, ◌-◌, ◌≤◌, arith, Bool, true, false, Option, none, some, List, [], ◌∷◌, length, take, drop, length-append, drop-append_seam, sets, length-take-le, le-leb, lt-ltb, ne_eqb}
-use Rattle.capsule_laws.proofs.Terms.{Partial, Bytes, bytes_of, largest, partial_of, held_bytes, bytes_drop, length-bytes_of, read_bounds, no_whole_nil, both, partial_occurs, Opening, Role, Plan, Phase, Reader, Verdict, Accepted, Refused, Stage, in_type, in_length, in_value, part, Parts, longest_address_value, opted, extent_of, gathers, keeps, Lent, Call, feed, close, Reply, run, parts_for, only_if, forwarded, append, Book, new_book, book_verdict, gained, book_feed, end_of, book_close, book_call, phase_at, phase_of, reader_of, of_book, opening, fresh, is_opening, open_of, is_makeable, verdict_of, wrote, fed_by, take_of, feed_by, feed_of, end_at, close_of, feed_reply, close_reply, reader_call, is_makeable_phase, plan_of, held_of, StandsAt, StandsBy, Stands, AllBytes, Agrees, Follows, left_by, HandedOn, LentWell, Demand3, Demand3Standing, zero_one, no_true, keeps-opted, plan-fits, held_few, Accepts, accepts}
-use Rattle.capsule.specs.declared.reader.Opened.TheVariants as opened
+use Rattle.std.specs.Prelude.{Result, Ok, Err}
+use Rattle.refusals.specs.declared.Refusal.{Refusal}
+use Rattle.walks.proofs.Words.{◌≡◌, refl, sym, ap, ◌∙◌, subst, ℕ, suc, ◌+◌, ◌-◌, ◌≤◌, arith, Bool, true, false, Option, None, Some, List, [], ◌∷◌, length, take, drop, length-append, drop-append_seam, sets, length-take-le, le-leb, lt-ltb, ne_eqb}
+use Rattle.capsule_laws.proofs.Terms.{Partial, Bytes, bytes_of, largest, partial_of, held_bytes, bytes_drop, length-bytes_of, read_bounds, no_whole_nil, both, partial_occurs, Opening, Role, Plan, Phase, Reader, Stage, in_type, in_length, in_value, part, Parts, longest_address_value, opted, extent_of, gathers, keeps, Lent, Call, feed, close, Reply, run, parts_for, only_if, forwarded, append, Book, new_book, book_verdict, gained, book_feed, end_of, book_close, book_call, phase_at, phase_of, reader_of, of_book, opening, fresh, is_opening, open_of, is_makeable, verdict_of, wrote, fed_by, take_of, feed_by, feed_of, end_at, close_of, feed_reply, close_reply, reader_call, is_makeable_phase, plan_of, held_of, StandsAt, StandsBy, Stands, AllBytes, Agrees, Follows, left_by, HandedOn, LentWell, Demand3, Demand3Standing, zero_one, no_true, keeps-opted, plan-fits, held_few, Accepts, accepts}
 use Rattle.capsule_laws.proofs.{Grammar.sees_type, Grammar.sees_length, Grammar.sees_value, Grammar.head_fits, Appending.Shows, Appending.for_nil, Appending.tail_shows, Appending.for_bytes, Gathering.take-sets, Steps.Same, Steps.same, Steps.between}
 use Rattle.capsule_laws.proofs.Graphs as graphs
 
@@ -38,7 +39,7 @@ pub verdict_same : (k : Book) (p : List ℕ) (b : Lent) → Open k
 unfolding verdict_of book_verdict
 verdict_same k p b o = rw (made_book k o) (unfold of_book reader_of in refl)
 
-pub unmarked : (k : Book) (p : List ℕ) (b : Lent) → book_verdict k p b ≡ Accepted → k.mark ≡ false
+pub unmarked : (k : Book) (p : List ℕ) (b : Lent) → book_verdict k p b ≡ (Ok tt) → k.mark ≡ false
 unfolding book_verdict
 unmarked k p b e = graphs.unmarked k.mark _ e
 
@@ -55,7 +56,7 @@ front_written o w h = take-sets o w 0 (length w) (omega arith) h
 
 -- ---- one accepted feeding
 
-module _ (k : Book) (p : List ℕ) (b : Lent) (o : Open k) (h : Bytes p) (v : book_verdict k p b ≡ Accepted) (s : Stands k b) where
+module _ (k : Book) (p : List ℕ) (b : Lent) (o : Open k) (h : Bytes p) (v : book_verdict k p b ≡ (Ok tt)) (s : Stands k b) where
   abbrev op : Opening
   op = k.opening
 
@@ -94,17 +95,17 @@ module _ (k : Book) (p : List ℕ) (b : Lent) (o : Open k) (h : Bytes p) (v : bo
   unfolding gained
   gains = sym (ap (drop (length (forwarded op k.stream))) there.writes ∙ drop-append_seam (forwarded op k.stream) w)
 
-  pub taken : ◌≡◌ {A = Reader × Reply} ((take_of (of_book k) p b).reader, feed_reply (take_of (of_book k) p b).answer (take_of (of_book k) p b).buffers) (of_book (book_feed k p Accepted).0, (book_feed k p Accepted).1)
+  pub taken : ◌≡◌ {A = Reader × Reply} ((take_of (of_book k) p b).reader, feed_reply (take_of (of_book k) p b).answer (take_of (of_book k) p b).buffers) (of_book (book_feed k p (Ok tt)).0, (book_feed k p (Ok tt)).1)
   unfolding take_of fed_by of_book reader_of book_feed feed_reply
   taken =
       let c = there.consumed in
       rw (front_written b.output w fits, there.ended, there.payload, gains, c, there.phase, unmarked k p b v)
 
-  pub taken-stands : Stands (book_feed k p Accepted).0 (take_of (of_book k) p b).buffers
+  pub taken-stands : Stands (book_feed k p (Ok tt)).0 (take_of (of_book k) p b).buffers
   unfolding take_of fed_by of_book reader_of book_feed
   taken-stands = (there.gathered, there.kept)
 
-  pub taken_open : Open (book_feed k p Accepted).0
+  pub taken_open : Open (book_feed k p (Ok tt)).0
   unfolding book_feed
   taken_open = record { accepted = o.accepted; bytes = there.bytes }
 
@@ -115,25 +116,25 @@ pub record One (k : Book) (c : Call) : Type 0 where
   pub stays_open : Open (book_call k c).0
 
 module _ (k : Book) (p : List ℕ) (b : Lent) where
-  pub left_by_lem : (v : Verdict) → verdict_of (of_book k) (length p) (length b.gathering) (length b.addresses) (length b.output) ≡ v → feed_of (of_book k) p b ≡ feed_by (of_book k) p b v
+  pub left_by_lem : (v : (Result (Unit {0}) Refusal)) → verdict_of (of_book k) (length p) (length b.gathering) (length b.addresses) (length b.output) ≡ v → feed_of (of_book k) p b ≡ feed_by (of_book k) p b v
   unfolding feed_of
   left_by_lem v e = rw e
 
-  pub book_by : (v : Verdict) → book_verdict k p b ≡ v → book_call k (feed p b) ≡ book_feed k p v
+  pub book_by : (v : (Result (Unit {0}) Refusal)) → book_verdict k p b ≡ v → book_call k (feed p b) ≡ book_feed k p v
   unfolding book_call
   book_by v e = rw e
 
-  one_feed : Open k → Bytes p → (book_verdict k p b ≡ Accepted → Stands k b) → One k (feed p b)
+  one_feed : Open k → Bytes p → (book_verdict k p b ≡ (Ok tt) → Stands k b) → One k (feed p b)
   one_feed o h s = go (book_verdict k p b) refl
     where
-      by : (v : Verdict) → book_verdict k p b ≡ v
+      by : (v : (Result (Unit {0}) Refusal)) → book_verdict k p b ≡ v
           → ◌≡◌ {A = Reader × Reply} ((feed_by (of_book k) p b v).reader, feed_reply (feed_by (of_book k) p b v).answer (feed_by (of_book k) p b v).buffers) (of_book (book_feed k p v).0, (book_feed k p v).1)
           → Open (book_feed k p v).0 → One k (feed p b)
       by v e f g = record { same_answer = unfold reader_call in rw (left_by_lem v (verdict_same k p b o ∙ e), book_by v e) f; stays_open = rw (book_by v e) g }
 
-      go : (v : Verdict) → book_verdict k p b ≡ v → One k (feed p b)
-      go (Refused r) v = by (Refused r) v (unfold feed_by feed_reply book_feed in refl) (unfold book_feed in o)
-      go Accepted v = by Accepted v (unfold feed_by in taken k p b o h v (s v)) (taken_open k p b o h v (s v))
+      go : (v : (Result (Unit {0}) Refusal)) → book_verdict k p b ≡ v → One k (feed p b)
+      go (Err r) v = by (Err r) v (unfold feed_by feed_reply book_feed in refl) (unfold book_feed in o)
+      go (Ok tt) v = by (Ok tt) v (unfold feed_by in taken k p b o h v (s v)) (taken_open k p b o h v (s v))
 
 -- a clean close finds the tail empty exactly between capsules
 end_same : (op : Opening) (r : List ℕ) (x : Stage) → Shows op r (part x) → end_at (phase_at op r x) ≡ end_of r
@@ -179,8 +180,8 @@ all_calls k (close ∷ cs) o h l =
 
 -- what the last accepted feeding left, against the stream
 abbrev Ready : Book → Option Lent → Type 0
-Ready k none = (b : Lent) → Stands k b
-Ready k (some b) = Stands k b
+Ready k None = (b : Lent) → Stands k b
+Ready k (Some b) = Stands k b
 
 -- a reader that did not opt in keeps nothing in the second buffer
 pub none_kept : (op : Opening) (r : List ℕ) (x : Stage) (a : List ℕ) → opted op ≡ false → StandsAt (keeps op) r x a
@@ -189,8 +190,8 @@ none_kept op r (in_length t j) a e = tt
 none_kept op r (in_value t n j) a e = λ k. no_true (sym e ∙ keeps-opted op t n k)
 
 ready_lent : (k : Book) (last : Option Lent) (b : Lent) → Ready k last → Follows k.opening last b → Stands k b
-ready_lent k none b r f = r b
-ready_lent k (some l) b r f = (subst (λ (g : List ℕ). StandsBy (gathers k.opening) k g) (sym f.0) r.0, go (opted k.opening) refl)
+ready_lent k None b r f = r b
+ready_lent k (Some l) b r f = (subst (λ (g : List ℕ). StandsBy (gathers k.opening) k g) (sym f.0) r.0, go (opted k.opening) refl)
   where
     go : (o : Bool) → opted k.opening ≡ o → StandsBy (keeps k.opening) k b.addresses
     go true e = subst (λ (g : List ℕ). StandsBy (keeps k.opening) k g) (sym (f.1 e)) r.1
@@ -198,25 +199,25 @@ ready_lent k (some l) b r f = (subst (λ (g : List ℕ). StandsBy (gathers k.ope
 
 ready_close : (k : Book) (last : Option Lent) (m : Bool) → Ready k last → Ready (book_close k m).0 last
 unfolding book_close
-ready_close k none true r = r
-ready_close k (some g) true r = r
-ready_close k none false r = r
-ready_close k (some g) false r = r
+ready_close k None true r = r
+ready_close k (Some g) true r = r
+ready_close k None false r = r
+ready_close k (Some g) false r = r
 
-ready_feed : (k : Book) (last : Option Lent) (p : List ℕ) (b : Lent) → Open k → Bytes p → Ready k last → (book_verdict k p b ≡ Accepted → Follows k.opening last b)
+ready_feed : (k : Book) (last : Option Lent) (p : List ℕ) (b : Lent) → Open k → Bytes p → Ready k last → (book_verdict k p b ≡ (Ok tt) → Follows k.opening last b)
     → Ready (book_call k (feed p b)).0 (left_by (book_verdict k p b) last (feed_of (of_book k) p b).buffers)
 ready_feed k last p b o h r f = go (book_verdict k p b) refl
   where
-    go : (v : Verdict) → book_verdict k p b ≡ v → Ready (book_call k (feed p b)).0 (left_by (book_verdict k p b) last (feed_of (of_book k) p b).buffers)
-    go (Refused why) v = rw (v, book_by k p b (Refused why) v) (unfold book_feed left_by in r)
-    go Accepted v =
-        rw (v, book_by k p b Accepted v, left_by_lem k p b Accepted (verdict_same k p b o ∙ v))
+    go : (v : (Result (Unit {0}) Refusal)) → book_verdict k p b ≡ v → Ready (book_call k (feed p b)).0 (left_by (book_verdict k p b) last (feed_of (of_book k) p b).buffers)
+    go (Err why) v = rw (v, book_by k p b (Err why) v) (unfold book_feed left_by in r)
+    go (Ok tt) v =
+        rw (v, book_by k p b (Ok tt) v, left_by_lem k p b (Ok tt) (verdict_same k p b o ∙ v))
         (unfold left_by feed_by in taken-stands k p b o h v (ready_lent k last b r (f v)))
 
 lent_well : (k : Book) (last : Option Lent) (cs : List Call) → Open k → AllBytes cs → Ready k last → HandedOn last k (of_book k) cs → LentWell k cs
 lent_well k last [] o h r l = tt
 lent_well k last (feed p b ∷ cs) o h r l =
-    let s : book_verdict k p b ≡ Accepted → Stands k b = λ v. ready_lent k last b r (l.0 v) in
+    let s : book_verdict k p b ≡ (Ok tt) → Stands k b = λ v. ready_lent k last b r (l.0 v) in
     let y = one_feed k p b o h.0 s in
     let k' = (book_call k (feed p b)).0 in
     let last' = left_by (book_verdict k p b) last (feed_of (of_book k) p b).buffers in
@@ -230,7 +231,7 @@ lent_well k last (close ∷ cs) o h r l =
 
 -- ---- from the opening
 
-pub open_fresh : (role : Role) (limit : ℕ) (draft addresses : Bool) (r : Reader) → open_of role limit draft addresses ≡ opened.Ready r → (is_opening (opening role limit draft addresses) ≡ true) × (r ≡ fresh (opening role limit draft addresses))
+pub open_fresh : (role : Role) (limit : ℕ) (draft addresses : Bool) (r : Reader) → open_of role limit draft addresses ≡ Ok r → (is_opening (opening role limit draft addresses) ≡ true) × (r ≡ fresh (opening role limit draft addresses))
 unfolding open_of
 open_fresh role limit draft addresses r e = go (is_opening (opening role limit draft addresses)) refl
   where
@@ -246,7 +247,7 @@ pub fresh_open : (op : Opening) → is_opening op ≡ true → Open (new_book op
 unfolding new_book
 fresh_open op e = record { accepted = e; bytes = tt }
 
-fresh_ready : (op : Opening) → Ready (new_book op) none
+fresh_ready : (op : Opening) → Ready (new_book op) None
 unfolding new_book
 fresh_ready op l = (
   subst (λ (x : Parts). StandsAt (gathers op) x.tail x.stage l.gathering) (sym (for_nil op)) tt,
@@ -262,13 +263,13 @@ demand_3_standing role limit draft addresses r e cs h l =
     rw f.1 (from_opening (opening role limit draft addresses) cs f.0 h l)
 
 -- where the buffers are handed on, the gathered value bytes stand at their fronts
-pub handed_well : (role : Role) (limit : ℕ) (draft addresses : Bool) (r : Reader) → open_of role limit draft addresses ≡ opened.Ready r
-    → (cs : List Call) → AllBytes cs → HandedOn none (new_book (opening role limit draft addresses)) r cs → LentWell (new_book (opening role limit draft addresses)) cs
+pub handed_well : (role : Role) (limit : ℕ) (draft addresses : Bool) (r : Reader) → open_of role limit draft addresses ≡ Ok r
+    → (cs : List Call) → AllBytes cs → HandedOn None (new_book (opening role limit draft addresses)) r cs → LentWell (new_book (opening role limit draft addresses)) cs
 handed_well role limit draft addresses r e cs h l =
     let f = open_fresh role limit draft addresses r e in
     let op = opening role limit draft addresses in
-    let l' : HandedOn none (new_book op) (of_book (new_book op)) cs = subst (λ (x : Reader). HandedOn none (new_book op) x cs) (f.1 ∙ fresh_book op) l in
-    lent_well (new_book op) none cs (fresh_open op f.0) h (fresh_ready op) l'
+    let l' : HandedOn None (new_book op) (of_book (new_book op)) cs = subst (λ (x : Reader). HandedOn None (new_book op) x cs) (f.1 ∙ fresh_book op) l in
+    lent_well (new_book op) None cs (fresh_open op f.0) h (fresh_ready op) l'
 
 pub demand_3 : Demand3
 demand_3 role limit draft addresses r e cs h l = demand_3_standing role limit draft addresses r e cs h (handed_well role limit draft addresses r e cs h l)

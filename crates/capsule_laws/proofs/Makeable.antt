@@ -1,8 +1,10 @@
 -- Which states opening, feeding and closing make, and what follows for every state. Assumes nothing.
+use Rattle.std.specs.Prelude.{Result, Ok, Err}
+use Rattle.refusals.specs.declared.Refusal.{Refusal}
+use Rattle.capsule.specs.declared.reader.Advance.{Advance}
+use Rattle.capsule.specs.Reader.{taking}
 use Rattle.walks.proofs.Words.{◌≡◌, refl, sym, ap, ◌∙◌, subst, ℕ, ◌+◌, ◌≤◌, ◌<◌, arith, Bool, true, false, List, [], ◌∷◌, ◌++◌, length}
-use Rattle.capsule_laws.proofs.Terms.{Bytes, both, Role, Endpoint, Intermediary, Opening, Phase, Reader, Verdict, Accepted, Refused, Stage, part, Parts, longest_address_value, opted, keeps, Lent, lent, Call, feed, close, Reply, run, finishes_in, lent_verdict, parts_for, Taken, append, ended_by, Book, new_book, book_verdict, book_feed, book_close, book_call, phase_of, reader_of, of_book, opening, fresh, is_opening, open_of, is_makeable, verdict_of, fed_by, take_of, feed_by, feed_of, reader_call, is_makeable_phase, plan_of, StandsAt, StandsBy, AddressesWell, CallBytes, AllBytes, Makes, MakeableExactly, StaysMakeable, RefusedUnchanged, Progress, StateOfBook, StateOfPlainBook, zero_one, Accepts, accepts, accepted_makeable, endpoint-lent, output-lent}
-use Rattle.capsule.specs.declared.reader.FeedAnswer.TheVariants as fed_as
-use Rattle.capsule.specs.declared.reader.Opened.TheVariants as opened
+use Rattle.capsule_laws.proofs.Terms.{ok_same, Bytes, both, Role, Endpoint, Intermediary, Opening, Phase, Reader, Stage, part, Parts, longest_address_value, opted, keeps, Lent, lent, Call, feed, close, Reply, run, finishes_in, lent_verdict, parts_for, Taken, append, ended_by, Book, new_book, book_verdict, book_feed, book_close, book_call, phase_of, reader_of, of_book, opening, fresh, is_opening, open_of, is_makeable, verdict_of, fed_by, take_of, feed_by, feed_of, reader_call, is_makeable_phase, plan_of, StandsAt, StandsBy, AddressesWell, CallBytes, AllBytes, Makes, MakeableExactly, StaysMakeable, RefusedUnchanged, Progress, StateOfBook, StateOfPlainBook, zero_one, Accepts, accepts, accepted_makeable, endpoint-lent, output-lent}
 use Rattle.capsule_laws.proofs.{Appending.Shows, Appending.for_nil, Appending.append_goes, Graphs.Calls, Graphs.refuses_piece, Graphs.takes_piece, Graphs.refuses_close, Graphs.closes, Graphs.calls, Origins.zeros, Origins.zeros-length, Origins.Written, Origins.written, Origins.planned_by, Origins.planned, Marks.call_opening, Lists.Open, Lists.made-stream, Lists.made_book, Lists.verdict_same, Lists.unmarked, Lists.left_by_lem, Lists.book_by, Lists.open_fresh, Lists.fresh_book, Lists.fresh_open, Lists.none_kept, Lists.one-close}
 
 -- ---- a feeding and a clean close leave no state that cannot be made
@@ -45,25 +47,25 @@ calls_makeable r (c ∷ cs) h m = calls_makeable (reader_call r c).0 cs h.1 (cal
 -- ---- the state after a list of calls, whatever the gathering buffer and the output hold
 
 module _ (k : Book) (o : Open k) where
-  state-taken : (p : List ℕ) (b : Lent) → Bytes p → book_verdict k p b ≡ Accepted → StandsBy (keeps k.opening) k b.addresses
-      → ((take_of (of_book k) p b).reader ≡ of_book (book_feed k p Accepted).0) × Open (book_feed k p Accepted).0
+  state-taken : (p : List ℕ) (b : Lent) → Bytes p → book_verdict k p b ≡ (Ok tt) → StandsBy (keeps k.opening) k b.addresses
+      → ((take_of (of_book k) p b).reader ≡ of_book (book_feed k p (Ok tt)).0) × Open (book_feed k p (Ok tt)).0
   unfolding take_of fed_by of_book reader_of book_feed
   state-taken p b h v s =
       let may : Accepts (of_book k) (length p) (length b.gathering) (length b.addresses) (length b.output) = accepts (of_book k) (length p) (length b.gathering) (length b.addresses) (length b.output) (verdict_same k p b o ∙ v) in
       let q = planned_by k.opening k.stream p b.addresses o.bytes h may.keeps s in
       (rw (q.1.ended, q.1.phase, unmarked k p b v), record { accepted = o.accepted; bytes = q.1.bytes })
 
-  state_feed : (p : List ℕ) (b : Lent) → Bytes p → (book_verdict k p b ≡ Accepted → StandsBy (keeps k.opening) k b.addresses)
+  state_feed : (p : List ℕ) (b : Lent) → Bytes p → (book_verdict k p b ≡ (Ok tt) → StandsBy (keeps k.opening) k b.addresses)
       → ((reader_call (of_book k) (feed p b)).0 ≡ of_book (book_call k (feed p b)).0) × Open (book_call k (feed p b)).0
   state_feed p b h s = go (book_verdict k p b) refl
     where
-      by : (v : Verdict) → book_verdict k p b ≡ v → ((feed_by (of_book k) p b v).reader ≡ of_book (book_feed k p v).0) × Open (book_feed k p v).0
+      by : (v : (Result (Unit {0}) Refusal)) → book_verdict k p b ≡ v → ((feed_by (of_book k) p b v).reader ≡ of_book (book_feed k p v).0) × Open (book_feed k p v).0
           → ((reader_call (of_book k) (feed p b)).0 ≡ of_book (book_call k (feed p b)).0) × Open (book_call k (feed p b)).0
       by v e f = unfold reader_call in rw (left_by_lem k p b v (verdict_same k p b o ∙ e), book_by k p b v e) f
 
-      go : (v : Verdict) → book_verdict k p b ≡ v → ((reader_call (of_book k) (feed p b)).0 ≡ of_book (book_call k (feed p b)).0) × Open (book_call k (feed p b)).0
-      go (Refused r) e = by (Refused r) e (unfold feed_by book_feed in (refl, o))
-      go Accepted e = by Accepted e (unfold feed_by in state-taken p b h e (s e))
+      go : (v : (Result (Unit {0}) Refusal)) → book_verdict k p b ≡ v → ((reader_call (of_book k) (feed p b)).0 ≡ of_book (book_call k (feed p b)).0) × Open (book_call k (feed p b)).0
+      go (Err r) e = by (Err r) e (unfold feed_by book_feed in (refl, o))
+      go (Ok tt) e = by (Ok tt) e (unfold feed_by in state-taken p b h e (s e))
 
 pub state_calls : (k : Book) (cs : List Call) → Open k → AllBytes cs → AddressesWell k cs → ((run reader_call (of_book k) cs).0 ≡ of_book (run book_call k cs).0) × Open (run book_call k cs).0
 unfolding run
@@ -107,14 +109,14 @@ module _ (op : Opening) (s : List ℕ) (x : Stage) (v : Shows op s (part x)) (w 
   buffers : Lent
   buffers = lent (zeros op.limit) (zeros longest_address_value) (zeros (length s + 8))
 
-  enough : book_verdict (new_book op) s buffers ≡ Accepted
+  enough : book_verdict (new_book op) s buffers ≡ (Ok tt)
   unfolding book_verdict new_book buffers
   enough = go op.role refl
     where
       g : op.limit ≤ length (zeros op.limit)
       g = omega (arith, zeros-length op.limit)
 
-      go : (r : Role) → op.role ≡ r → lent_verdict op (length s) (length (zeros op.limit)) (length (zeros longest_address_value)) (length (zeros (length s + 8))) ≡ Accepted
+      go : (r : Role) → op.role ≡ r → lent_verdict op (length s) (length (zeros op.limit)) (length (zeros longest_address_value)) (length (zeros (length s + 8))) ≡ (Ok tt)
       go Endpoint e = sym (endpoint-lent op (length s) (length (zeros op.limit)) (length (zeros longest_address_value)) (length (zeros (length s + 8))) g e (λ o. omega (arith, zeros-length longest_address_value)))
       go Intermediary e = sym (output-lent op (length s) (length (zeros op.limit)) (length (zeros longest_address_value)) (length (zeros (length s + 8))) g e (omega (arith, zeros-length (length s + 8))))
 
@@ -123,7 +125,7 @@ module _ (op : Opening) (s : List ℕ) (x : Stage) (v : Shows op s (part x)) (w 
   unfolding new_book book_feed ended_by finishes_in
   after-piece =
       let t : Shows op ((parts_for op []).tail ++ s) (part x) = subst (λ (l : Parts). Shows op (l.tail ++ s) (part x)) (sym (for_nil op)) v in
-      ap (λ (y : Book × Reply). y.0) (book_by (new_book op) s buffers Accepted enough)
+      ap (λ (y : Book × Reply). y.0) (book_by (new_book op) s buffers (Ok tt) enough)
       ∙ ap (λ (y : Taken). record { opening = op; stream = y.stream; mark = finishes_in (ended_by op y.capsule) }) (append_goes op [] s x t)
 
   marked : (m : Bool) → (run book_call (record { opening = op; stream = s; mark = false }) (closing_calls m)).0 ≡ record { opening = op; stream = s; mark = m }
@@ -156,7 +158,7 @@ module _ (op : Opening) (s : List ℕ) (x : Stage) (v : Shows op s (part x)) (w 
       ∙ (state_calls (new_book op) (feed s buffers ∷ closing_calls m) (fresh_open op a) (all-bytes m) (well m)).0
       ∙ ap of_book (ran m)
 
-opens : (op : Opening) → is_opening op ≡ true → open_of op.role op.limit op.draft op.addresses ≡ opened.Ready (fresh op)
+opens : (op : Opening) → is_opening op ≡ true → open_of op.role op.limit op.draft op.addresses ≡ Ok (fresh op)
 unfolding open_of
 opens op e = rw e
 
@@ -175,7 +177,7 @@ made r e =
       makes = runs r.opening w.stream w.stage w.seen w.bytes w.accepted r.finished ∙ w.is;
     }
 
-pub opened_makeable : (role : Role) (limit : ℕ) (draft addresses : Bool) (r : Reader) → open_of role limit draft addresses ≡ opened.Ready r → is_makeable r ≡ true
+pub opened_makeable : (role : Role) (limit : ℕ) (draft addresses : Bool) (r : Reader) → open_of role limit draft addresses ≡ Ok r → is_makeable r ≡ true
 opened_makeable role limit draft addresses r e =
     let f = open_fresh role limit draft addresses r e in
     let op = opening role limit draft addresses in
@@ -196,18 +198,18 @@ pub refused_unchanged : RefusedUnchanged
 unfolding feed_of
 refused_unchanged r p b why e = go (verdict_of r (length p) (length b.gathering) (length b.addresses) (length b.output)) e
   where
-    go : (v : Verdict) → (feed_by r p b v).answer ≡ fed_as.Refused why → ((feed_by r p b v).reader ≡ r) × ((feed_by r p b v).buffers ≡ b)
-    go (Refused w) d = unfold feed_by in (refl, refl)
-    go Accepted d = zero_one (unfold feed_by take_of fed_by in cc)
+    go : (v : (Result (Unit {0}) Refusal)) → (feed_by r p b v).answer ≡ Err why → ((feed_by r p b v).reader ≡ r) × ((feed_by r p b v).buffers ≡ b)
+    go (Err w) d = unfold feed_by in (refl, refl)
+    go (Ok tt) d = zero_one (unfold feed_by take_of fed_by in cc)
 
 pub progress : Progress
 unfolding feed_of
 progress r p b consumed wrote ended h pos e = go (verdict_of r (length p) (length b.gathering) (length b.addresses) (length b.output)) refl e
   where
-    go : (v : Verdict) → verdict_of r (length p) (length b.gathering) (length b.addresses) (length b.output) ≡ v → (feed_by r p b v).answer ≡ fed_as.Took consumed wrote ended → 0 < consumed
-    go (Refused w) f d = zero_one (unfold feed_by in cc)
-    go Accepted f d =
-        let is_c : (plan_of r.opening p r.phase).consumed ≡ consumed = unfold feed_by take_of fed_by in cc in
+    go : (v : (Result (Unit {0}) Refusal)) → verdict_of r (length p) (length b.gathering) (length b.addresses) (length b.output) ≡ v → (feed_by r p b v).answer ≡ Ok (taking consumed wrote ended) → 0 < consumed
+    go (Err w) f d = zero_one (unfold feed_by in cc)
+    go (Ok tt) f d =
+        let is_c : (plan_of r.opening p r.phase).consumed ≡ consumed = unfold feed_by take_of fed_by in ap (λ (a : Advance). a.consumed) (ok_same d) in
         let w = written r (accepted_makeable r (length p) (length b.gathering) (length b.addresses) (length b.output) f) in
         let q = (planned r.opening w.stream p w.bytes h).2 in
         let is_p = phase-is r w in

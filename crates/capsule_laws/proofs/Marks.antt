@@ -1,7 +1,7 @@
 -- What sets the finished mark, and that nothing comes after it. Assumes nothing.
+use Rattle.std.specs.Prelude.{Option, Some, None}
 use Rattle.walks.proofs.Words.{◌≡◌, refl, sym, ap, ◌∙◌, subst, ℕ, Bool, true, false, cond, ◌||◌, List, [], ◌∷◌, ◌++◌, map, leb, or-false, or-true}
-use Rattle.capsule_laws.proofs.Terms.{finished, Opening, Role, Kind, Datagram, Address, Unknown, Report, AddressDelivered, Malformed, Ended, Nothing, Capsule, longest_address_value, kind_of, extent_by, extent_of, report_by, report_of, judged, finishes, Call, feed, close, Reply, refused, fed, closed, run, finishes_in, parts_for, reported, Book, new_book, book_verdict, book_feed, book_close, book_call, reports_in, reports, Short, AllShort, marks_in, any_marks, AllFinished, NothingAfter, MarkedExactly, NoneFinish, GrammarUnlessMalformed, UnmarkedGrammar, no_true}
-use Rattle.planning.specs.declared.Ended.TheVariants as ended
+use Rattle.capsule_laws.proofs.Terms.{finished, Opening, Role, Kind, Datagram, Address, Unknown, Report, AddressDelivered, Malformed, Capsule, longest_address_value, kind_of, extent_by, extent_of, report_by, report_of, judged, finishes, Call, feed, close, Reply, refused, fed, closed, run, finishes_in, parts_for, reported, Book, new_book, book_verdict, book_feed, book_close, book_call, reports_in, reports, Short, AllShort, marks_in, any_marks, AllFinished, NothingAfter, MarkedExactly, NoneFinish, GrammarUnlessMalformed, UnmarkedGrammar, no_true}
 use mathlib.Core.Bool.{or_assoc}
 use Rattle.capsule_laws.proofs.{Graphs.Books, Graphs.refuses_feed, Graphs.takes_feed, Graphs.refuses_end, Graphs.closes_book, Graphs.books, Orders.whole_list, Plain.read_plain}
 
@@ -71,10 +71,10 @@ or_left : (a b : Bool) → a || b ≡ false → (a ≡ false) × (b ≡ false)
 or_left true b e = no_true (sym e)
 or_left false b e = (refl, e)
 
-none_ended : (e : Ended) (rs : List Report) → finishes_in e ≡ false → NoneFinish rs → NoneFinish (reports_in e ++ rs)
+none_ended : (e : Option Report) (rs : List Report) → finishes_in e ≡ false → NoneFinish rs → NoneFinish (reports_in e ++ rs)
 unfolding reports_in finishes_in
-none_ended Nothing rs f h = h
-none_ended (ended.Capsule r) rs f h = (f, h)
+none_ended None rs f h = h
+none_ended (Some r) rs f h = (f, h)
 
 none_finish : (rs : List Reply) → any_marks rs ≡ false → NoneFinish (reports rs)
 unfolding reports any_marks marks_in

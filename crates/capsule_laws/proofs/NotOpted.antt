@@ -1,9 +1,9 @@
 -- A reader that did not opt in answers as before request 4. Assumes nothing.
-use Rattle.walks.proofs.Words.{◌≡◌, refl, ap, ◌∙◌, ℕ, ◌+◌, ◌-◌, arith, Bool, true, false, cond, ◌&&◌, ◌||◌, Option, none, some, List, [], ◌∷◌, ◌++◌, length, take, drop, length-drop, leb, eqb, or-false}
-use Rattle.capsule_laws.proofs.Terms.{Partial, Impossible, More, Ends, take_varint, Role, Endpoint, Intermediary, Datagram, Unknown, Opening, Report, Delivered, Dropped, Plan, Phase, InType, InLength, InValue, Reader, Ended, Nothing, finished, unmakeable_state, Verdict, Accepted, Refused, Extent, Stage, in_type, in_length, in_value, parts_by, parts, opted, kind_of, extent_by, extent_of, report_by, report_of, judged, finishes, only_delivered, forwards_by, forwards, gathers_by, gathers, keeps_by, keeps, length_of, Lent, lent, Call, feed, close, Reply, run, finishes_in, addresses_verdict, lent_verdict, parts_for, from_capsules, from_tail, from_parts, forwarded, completes, Taken, append, reported, ended_by, payload_by, Book, book_verdict, gained, book_feed, book_close, book_call, no_bytes, is_makeable_phase, plan_value, plan_head, plan_length, plan_type, plan_of, is_opening, is_makeable, verdict_of, stored, judged_in, feeding, fed_by, take_of, feed_by, feed_of, end_at, closing, close_of, front_of, feed_reply, reader_call, NotOptedGrammar, AsBefore, ClosesAsBefore, AnswersAsBefore, BookAsBefore}
+use Rattle.std.specs.Prelude.{Some, None, Result, Ok, Err}
+use Rattle.refusals.specs.declared.Refusal.{Refusal}
+use Rattle.walks.proofs.Words.{◌≡◌, refl, ap, ◌∙◌, ℕ, ◌+◌, ◌-◌, arith, Bool, true, false, cond, ◌&&◌, ◌||◌, Option, List, [], ◌∷◌, ◌++◌, length, take, drop, length-drop, leb, eqb, or-false}
+use Rattle.capsule_laws.proofs.Terms.{Partial, Impossible, More, Ends, take_varint, Role, Endpoint, Intermediary, Datagram, Unknown, Opening, Report, Delivered, Dropped, Plan, Phase, InType, InLength, InValue, Reader, finished, unmakeable_state, Extent, Stage, in_type, in_length, in_value, parts_by, parts, opted, kind_of, extent_by, extent_of, report_by, report_of, judged, finishes, only_delivered, forwards_by, forwards, gathers_by, gathers, keeps_by, keeps, length_of, Lent, lent, Call, feed, close, Reply, run, finishes_in, addresses_verdict, lent_verdict, parts_for, from_capsules, from_tail, from_parts, forwarded, completes, Taken, append, reported, ended_by, payload_by, Book, book_verdict, gained, book_feed, book_close, book_call, no_bytes, is_makeable_phase, plan_value, plan_head, plan_length, plan_type, plan_of, is_opening, is_makeable, verdict_of, stored, judged_in, feeding, fed_by, take_of, feed_by, feed_of, end_at, closing, close_of, front_of, feed_reply, reader_call, NotOptedGrammar, AsBefore, ClosesAsBefore, AnswersAsBefore, BookAsBefore}
 use Rattle.wire.specs.declared.partial.VarintTaken as wire
-use Rattle.planning.specs.declared.Ended.TheVariants.{Capsule}
-use Rattle.capsule.specs.declared.reader.CloseAnswer.TheVariants as closed_as
 use Rattle.capsule.specs.Grammar as grammar
 use Rattle.capsule_laws.specs.Before as before
 use Rattle.capsule_laws.proofs.Appending.{Outcome, goes, ends, outcome}
@@ -32,19 +32,19 @@ unfolding before.report_of before.kind_of
 old_report op t n = old_by op.role op.limit (eqb t 0 || (op.draft && eqb t 0xff37a5)) t n
 
 -- and of what a feeding ended
-record OldEnded (e : Ended) : Type 0 where
+record OldEnded (e : Option Report) : Type 0 where
   judges : (a : List ℕ) → judged_in e a ≡ e
   finish : finishes_in e ≡ false
   front : (g a : List ℕ) → front_of e g a ≡ before.front_of e g
 
-nothing : OldEnded Nothing
+nothing : OldEnded None
 unfolding judged_in finishes_in front_of before.front_of
 nothing = record { judges = λ a. refl; finish = refl; front = λ g a. refl }
 
-capsule : {r : Report} → Old r → OldEnded (Capsule r)
+capsule : {r : Report} → Old r → OldEnded (Some r)
 unfolding judged_in finishes_in front_of before.front_of
 capsule {r} o = record {
-  judges = λ a. ap Capsule (o.judges (take (length_of r) a));
+  judges = λ a. ap Some (o.judges (take (length_of r) a));
   finish = o.finish;
   front = λ g a. o.only (take (length_of r) g) (take (length_of r) a) ∙ ap (λ (n : ℕ). before.only_delivered r (take n g)) o.size;
 }
@@ -147,9 +147,9 @@ pub as_before : AsBefore
 unfolding feed_of before.feed_of
 as_before r p b e = rw (verdict_is r e (length p) (length b.gathering) (length b.addresses) (length b.output)) (go (before.verdict_of r (length p) (length b.gathering) (length b.output)))
   where
-    go : (v : Verdict) → feed_by r p b v ≡ feeding (before.feed_by r p b.gathering b.output v).reader (before.feed_by r p b.gathering b.output v).answer (lent (before.feed_by r p b.gathering b.output v).gathering b.addresses (before.feed_by r p b.gathering b.output v).output)
-    go (Refused why) = unfold feed_by before.feed_by in refl
-    go Accepted = unfold feed_by before.feed_by in taken_is r p b e
+    go : (v : (Result (Unit {0}) Refusal)) → feed_by r p b v ≡ feeding (before.feed_by r p b.gathering b.output v).reader (before.feed_by r p b.gathering b.output v).answer (lent (before.feed_by r p b.gathering b.output v).gathering b.addresses (before.feed_by r p b.gathering b.output v).output)
+    go (Err why) = unfold feed_by before.feed_by in refl
+    go (Ok tt) = unfold feed_by before.feed_by in taken_is r p b e
 
 pub closes_as_before : ClosesAsBefore
 unfolding close_of before.close_of
@@ -175,31 +175,31 @@ runs_as call old opening one s (c ∷ cs) e =
 -- ---- on a reader
 
 module _ (r : Reader) (p : List ℕ) (b : Lent) (e : opted r.opening ≡ false) where
-  abbrev old : Verdict → before.Feeding
+  abbrev old : (Result (Unit {0}) Refusal) → before.Feeding
   old v = before.feed_by r p b.gathering b.output v
 
-  reply_is : (a : List ℕ) (v : Verdict) → feed_reply (old v).answer (lent (old v).gathering a (old v).output) ≡ before.feed_reply (old v).answer (old v).gathering (old v).output
+  reply_is : (a : List ℕ) (v : (Result (Unit {0}) Refusal)) → feed_reply (old v).answer (lent (old v).gathering a (old v).output) ≡ before.feed_reply (old v).answer (old v).gathering (old v).output
   unfolding before.feed_by before.take_of before.fed_by feed_reply before.feed_reply
-  reply_is a (Refused why) = refl
-  reply_is a Accepted = rw ((plan-is r.opening e p r.phase).ended.front (old Accepted).gathering a)
+  reply_is a (Err why) = refl
+  reply_is a (Ok tt) = rw ((plan-is r.opening e p r.phase).ended.front (old (Ok tt)).gathering a)
 
-  opening-is : (v : Verdict) → (old v).reader.opening ≡ r.opening
+  opening-is : (v : (Result (Unit {0}) Refusal)) → (old v).reader.opening ≡ r.opening
   unfolding before.feed_by before.take_of before.fed_by
-  opening-is (Refused why) = refl
-  opening-is Accepted = refl
+  opening-is (Err why) = refl
+  opening-is (Ok tt) = refl
 
   fed-is : (reader_call r (feed p b) ≡ before.reader_call r (feed p b)) × ((before.reader_call r (feed p b)).0.opening ≡ r.opening)
   unfolding reader_call before.reader_call before.feed_of
   fed-is = (rw (as_before r p b e) (unfold before.feed_of in rw (reply_is b.addresses v)), opening-is v)
     where
-      v : Verdict
+      v : (Result (Unit {0}) Refusal)
       v = before.verdict_of r (length p) (length b.gathering) (length b.output)
 
 closed_is : (r : Reader) → opted r.opening ≡ false → (reader_call r close ≡ before.reader_call r close) × ((before.reader_call r close).0.opening ≡ r.opening)
 unfolding reader_call before.reader_call before.close_of
 closed_is r e = (rw (closes_as_before r e), go (before.is_makeable r) r.finished)
   where
-    go : (m f : Bool) → (cond m (cond f (closing r (closed_as.Refused finished)) (closing (record { opening = r.opening; phase = r.phase; finished = true }) (end_at r.phase))) (closing r (closed_as.Refused unmakeable_state))).reader.opening ≡ r.opening
+    go : (m f : Bool) → (cond m (cond f (closing r (Err finished)) (closing (record { opening = r.opening; phase = r.phase; finished = true }) (Ok (end_at r.phase)))) (closing r (Err unmakeable_state))).reader.opening ≡ r.opening
     go true true = refl
     go true false = refl
     go false f = refl
@@ -219,8 +219,8 @@ old_some op e c s = rw ((type_is op e c.ctype c.size).1, s) ((old_report op c.ct
 
 -- a capsule that a piece completes has the length that it says
 Sized : Option grammar.Capsule → Type 0
-Sized none = Unit {0}
-Sized (some c) = c.size ≡ length c.value
+Sized None = Unit {0}
+Sized (Some c) = c.size ≡ length c.value
 
 module _ (op : Opening) (e : opted op ≡ false) where
   sized : (s p : List ℕ) → Sized (append op s p).capsule
@@ -233,11 +233,11 @@ module _ (op : Opening) (e : opted op ≡ false) where
 
   ended_is : (c : Option grammar.Capsule) → Sized c → (ended_by op c ≡ before.ended_by op c) × (payload_by op c ≡ before.payload_by op c) × OldEnded (before.ended_by op c)
   unfolding Sized ended_by payload_by before.ended_by before.payload_by
-  ended_is none s = (refl, refl, nothing)
-  ended_is (some c) s =
+  ended_is None s = (refl, refl, nothing)
+  ended_is (Some c) s =
       let r = old_some op e c s in
       let o : Old (before.reported op c) = unfold before.reported in old_report op c.ctype (length c.value) in
-      (ap Capsule r, rw r (o.only c.value c.value), capsule o)
+      (ap Some r, rw r (o.only c.value c.value), capsule o)
 
   from_capsules_lem : (cs : List grammar.Capsule) → from_capsules op cs ≡ before.from_capsules op cs
   unfolding from_capsules before.from_capsules
@@ -268,18 +268,18 @@ append-is op e [] s = refl
 append-is op e (b ∷ p) s = go (before.completes s b) refl (append-is op e p (s ++ (b ∷ [])))
   where
     go : (c : Option grammar.Capsule) → before.completes s b ≡ c → append op (s ++ (b ∷ [])) p ≡ before.append (s ++ (b ∷ [])) p → append op s (b ∷ p) ≡ before.append s (b ∷ p)
-    go none d again = rw (completes-is op e s b ∙ d, append, d, before.append, again)
-    go (some c) d again = rw (completes-is op e s b ∙ d, append, d, before.append)
+    go None d again = rw (completes-is op e s b ∙ d, append, d, before.append, again)
+    go (Some c) d again = rw (completes-is op e s b ∙ d, append, d, before.append)
 
 module _ (k : Book) (e : opted k.opening ≡ false) where
   book_verdict_is : (p : List ℕ) (b : Lent) → book_verdict k p b ≡ before.book_verdict k p b.gathering b.output
   unfolding book_verdict before.book_verdict
   book_verdict_is p b = rw (lent_is k.opening e (length p) (length b.gathering) (length b.addresses) (length b.output))
 
-  book_feed_is : (p : List ℕ) (v : Verdict) → book_feed k p v ≡ before.book_feed k p v
+  book_feed_is : (p : List ℕ) (v : (Result (Unit {0}) Refusal)) → book_feed k p v ≡ before.book_feed k p v
   unfolding book_feed before.book_feed
-  book_feed_is p (Refused r) = refl
-  book_feed_is p Accepted =
+  book_feed_is p (Err r) = refl
+  book_feed_is p (Ok tt) =
       let op = k.opening in
       let z = ended_is op e (append op k.stream p).capsule (sized op e k.stream p) in
       rw (z.0, z.1, z.2.finish, or-false k.mark, gained-is op e k.stream (append op k.stream p).stream, append-is op e p k.stream)
@@ -293,12 +293,12 @@ book_call_is : (k : Book) (c : Call) → opted k.opening ≡ false → (book_cal
 unfolding book_call before.book_call
 book_call_is k (feed p b) e = (rw (book_verdict_is k e p b) (book_feed_is k e p v), go v)
   where
-    v : Verdict
+    v : (Result (Unit {0}) Refusal)
     v = before.book_verdict k p b.gathering b.output
 
-    go : (v : Verdict) → (before.book_feed k p v).0.opening ≡ k.opening
-    go (Refused r) = unfold before.book_feed in refl
-    go Accepted = unfold before.book_feed in refl
+    go : (v : (Result (Unit {0}) Refusal)) → (before.book_feed k p v).0.opening ≡ k.opening
+    go (Err r) = unfold before.book_feed in refl
+    go (Ok tt) = unfold before.book_feed in refl
 book_call_is k close e = (book_close-is k e k.mark, go k.mark)
   where
     go : (m : Bool) → (before.book_close k m).0.opening ≡ k.opening

@@ -1,13 +1,15 @@
 -- Over a whole list of calls: reports, payloads and writes in order. Assumes nothing.
-use Rattle.walks.proofs.Words.{◌≡◌, refl, sym, ap, ◌∙◌, ℕ, true, Option, none, some, List, [], ◌∷◌, ◌++◌, append_assoc, append-nil, map, map-append, length, take, drop, drop-append_seam}
-use Rattle.capsule_laws.proofs.Terms.{Opening, Report, Delivered, Dropped, Skipped, Passed, AddressDelivered, Malformed, Accepted, Capsule, Parts, only_delivered, Call, Reply, refused, fed, closed, run, Refusal, CloseAnswer, parts_for, from_capsules, from_tail, from_parts, forwarded, Taken, append, reported, ended_by, payload_by, Book, new_book, gained, book_feed, book_call, reports_in, reports, if_delivered, if_address, Wanted, values_in, values, writes, delivered, WholeList}
+use Rattle.std.specs.Prelude.{Ok}
+use Rattle.capsule.specs.declared.reader.Ending.{Ending}
+use Rattle.walks.proofs.Words.{◌≡◌, refl, sym, ap, ◌∙◌, ℕ, true, Option, None, Some, List, [], ◌∷◌, ◌++◌, append_assoc, append-nil, map, map-append, length, take, drop, drop-append_seam}
+use Rattle.capsule_laws.proofs.Terms.{Opening, Report, Delivered, Dropped, Skipped, Passed, AddressDelivered, Malformed, Capsule, Parts, only_delivered, Call, Reply, refused, fed, closed, run, Refusal, parts_for, from_capsules, from_tail, from_parts, forwarded, Taken, append, reported, ended_by, payload_by, Book, new_book, gained, book_feed, book_call, reports_in, reports, if_delivered, if_address, Wanted, values_in, values, writes, delivered, WholeList}
 use Rattle.capsule_laws.proofs.{Graphs.Books, Graphs.refuses_feed, Graphs.takes_feed, Graphs.refuses_end, Graphs.closes_book, Graphs.books, Consuming.consumed_exactly, Appending.for_nil, Appending.parts_goes, Appending.parts-ends, Appending.Outcome, Appending.goes, Appending.ends, Appending.outcome, Forwarding.forwarded_grows}
 
 -- ---- what a piece adds to the stream
 
 optional : Option Capsule → List Capsule
-optional none = []
-optional (some c) = c ∷ []
+optional None = []
+optional (Some c) = c ∷ []
 
 module _ (op : Opening) (s p : List ℕ) where
   capsules_grow : (parts_for op (append op s p).stream).capsules ≡ (parts_for op s).capsules ++ optional (append op s p).capsule
@@ -58,7 +60,7 @@ module _ (op : Opening) (s : List ℕ) where
     unfolding reports values writes
     adds_refused r a = record { report = a.report; payload = a.payload; write = a.write }
 
-    adds_closed : (c : CloseAnswer) → Adds op s rs s' → Adds op s (closed c ∷ rs) s'
+    adds_closed : (c : Ending) → Adds op s rs s' → Adds op s (closed c ∷ rs) s'
     unfolding reports values writes
     adds_closed c a = record { report = a.report; payload = a.payload; write = a.write }
 
@@ -73,13 +75,13 @@ fair (Malformed t n) v = (refl, refl)
 
 reports_of : (op : Opening) (c : Option Capsule) → map (reported op) (optional c) ≡ reports_in (ended_by op c)
 unfolding optional reports_in ended_by
-reports_of op none = refl
-reports_of op (some c) = refl
+reports_of op None = refl
+reports_of op (Some c) = refl
 
 values_of : (want : Wanted) → Fair want → (op : Opening) (c : Option Capsule) → delivered want op (optional c) ≡ values_in want (ended_by op c) (payload_by op c)
 unfolding optional delivered values_in ended_by payload_by
-values_of want f op none = refl
-values_of want f op (some c) = append-nil (want (reported op c) c.value) ∙ sym (f (reported op c) c.value)
+values_of want f op None = refl
+values_of want f op (Some c) = append-nil (want (reported op c) c.value) ∙ sym (f (reported op c) c.value)
 
 module _ (op : Opening) (s p : List ℕ) (n : ℕ) (rs : List Reply) (s' : List ℕ) where
   abbrev t : Taken
@@ -115,7 +117,7 @@ all_adds (c ∷ cs) k = go (λ k'. all_adds cs k') (books k c)
     go : ((k' : Book) → AddsAll cs k') → {c : Call} {x : Book × Reply} → Books k c x
         → Adds k.opening k.stream (x.1 ∷ (run book_call x.0 cs).1) (run book_call x.0 cs).0.stream
     go again (refuses_feed why f) = adds_refused k.opening k.stream _ _ why (again k)
-    go again (takes_feed {p = p} v) = unfold book_feed in adds_fed k.opening k.stream p _ _ _ (again (book_feed k p Accepted).0)
+    go again (takes_feed {p = p} v) = unfold book_feed in adds_fed k.opening k.stream p _ _ _ (again (book_feed k p (Ok tt)).0)
     go again (refuses_end e) = adds_refused k.opening k.stream _ _ _ (again k)
     go again (closes_book e) = adds_closed k.opening k.stream _ _ _ (again (record { opening = k.opening; stream = k.stream; mark = true }))
 

@@ -1,6 +1,8 @@
 -- For every state that can be made a stream that makes it, and its plan as the book's. Assumes nothing.
+use Rattle.std.specs.Prelude.{Some}
+use Rattle.short_forms.specs.Short.{varint_of}
 use Rattle.walks.proofs.Words.{◌≡◌, sym, ap, ◌∙◌, subst, ℕ, zero, suc, ◌+◌, ◌-◌, ◌≤◌, ◌<◌, arith, Bool, true, ◌&&◌, List, ◌++◌, length, drop, replicate, length-append, length-drop, length-replicate, take_at, drop_at, leb, ltb, ltb-true, leb-true}
-use Rattle.capsule_laws.proofs.Terms.{Whole, Partial, Bytes, largest, read_varint, encode_as, partial_of, held_bytes, is_partial, bytes-append, bytes_of-bytes, length-bytes_of, every_form_read, parted, held_bytes_lem, held_read, partial_held, Opening, Phase, InType, InLength, InValue, Reader, Stage, in_type, in_length, in_value, part, Parts, longest_address_value, opted, extent_of, gathers, keeps, parts_for, append, phase_at, phase_of, reader_of, is_opening, is_makeable, is_makeable_phase, plan_of, StandsAt}
+use Rattle.capsule_laws.proofs.Terms.{Partial, Bytes, largest, read_varint, encode_as, partial_of, held_bytes, is_partial, bytes-append, bytes_of-bytes, length-bytes_of, every_form_read, parted, held_bytes_lem, held_read, partial_held, Opening, Phase, InType, InLength, InValue, Reader, Stage, in_type, in_length, in_value, part, Parts, longest_address_value, opted, extent_of, gathers, keeps, parts_for, append, phase_at, phase_of, reader_of, is_opening, is_makeable, is_makeable_phase, plan_of, StandsAt}
 use Rattle.capsule_laws.proofs.{Grammar.sees_type, Grammar.sees_length, Grammar.sees_value, Appending.Shows, Appending.for_part, Appending.tail_shows, Steps.Same, Steps.same}
 
 -- ---- a stream that makes the phase
@@ -17,7 +19,7 @@ module _ (t : ℕ) (h : t ≤ largest) where
   eight : List ℕ
   eight = encode_as 3 t
 
-  eight_read : (r : List ℕ) → read_varint (eight ++ r) ≡ Whole t 8
+  eight_read : (r : List ℕ) → read_varint (eight ++ r) ≡ Some (varint_of t 8)
   unfolding eight largest
   eight_read r = every_form_read 3 t (omega arith) (omega arith) r
 
@@ -71,7 +73,7 @@ module _ (op : Opening) where
         stream = eight t h ++ r;
         bytes = bytes-append (eight t h) r (eight_bytes t h) (bytes-append (eight n i) v (eight_bytes n i) (zeros-bytes (m - left)));
         stage = in_value t n 16;
-        seen = sees_value (eight_read t h r) (subst (λ (l : List ℕ). read_varint l ≡ Whole n 8) (sym d) (eight_read n i v)) (omega arith);
+        seen = sees_value (eight_read t h r) (subst (λ (l : List ℕ). read_varint l ≡ Some (varint_of n 8)) (sym d) (eight_read n i v)) (omega arith);
         is = ap (InValue t n) (omega arith);
       }
 

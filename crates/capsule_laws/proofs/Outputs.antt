@@ -1,7 +1,11 @@
 -- The output of an accepted feeding: what is not written stays. Assumes nothing.
+use Rattle.std.specs.Prelude.{Option, Result, Ok, Err}
+use Rattle.opening.specs.declared.Report.{Report}
+use Rattle.refusals.specs.declared.Refusal.{Refusal}
+use Rattle.capsule.specs.declared.reader.Advance.{Advance}
+use Rattle.capsule.specs.Reader.{taking}
 use Rattle.walks.proofs.Words.{◌≡◌, refl, sym, ap, ◌∙◌, subst, ℕ, ◌+◌, ◌≤◌, arith, Bool, true, false, List, [], length, drop, drop-append_seam, sets, sets-eq, length-sets}
-use Rattle.capsule_laws.proofs.Terms.{Endpoint, Plan, Ended, Reader, Verdict, Accepted, Refused, Lent, only_if, verdict_of, wrote, Feeding, fed_by, take_of, feed_of, plan_of, held_of, zero_one, plan-fits, held_few, Accepts, accepts, feed_refused, feed_taken, OutputKept, OutputExactly}
-use Rattle.capsule.specs.declared.reader.FeedAnswer.TheVariants as fed_as
+use Rattle.capsule_laws.proofs.Terms.{ok_same, Endpoint, Plan, Reader, Lent, only_if, verdict_of, wrote, Feeding, fed_by, take_of, feed_of, plan_of, held_of, zero_one, plan-fits, held_few, Accepts, accepts, feed_refused, feed_taken, OutputKept, OutputExactly}
 use Rattle.capsule_laws.proofs.Lists.{wrote-fits}
 
 drop-sets : (o w : List ℕ) → length w ≤ length o → drop (length w) (sets o 0 w) ≡ drop (length w) o
@@ -9,7 +13,7 @@ drop-sets o w h =
     let z : 0 + length w ≡ length w = omega arith in
     ap (drop (length w)) (sets-eq w o 0 (omega arith)) ∙ drop-append_seam w (drop (0 + length w) o) ∙ ap (λ (n : ℕ). drop n o) z
 
-module _ (r : Reader) (p : List ℕ) (b : Lent) (v : verdict_of r (length p) (length b.gathering) (length b.addresses) (length b.output) ≡ Accepted) where
+module _ (r : Reader) (p : List ℕ) (b : Lent) (v : verdict_of r (length p) (length b.gathering) (length b.addresses) (length b.output) ≡ (Ok tt)) where
   abbrev plan : Plan
   plan = plan_of r.opening p r.phase
 
@@ -38,9 +42,9 @@ module _ (r : Reader) (p : List ℕ) (b : Lent) (v : verdict_of r (length p) (le
   unfolding take_of fed_by
   out = ap (λ (x : Feeding). x.buffers.output) (sym (feed_taken r p b v))
 
-  count : (consumed written : ℕ) (ended : Ended) → (take_of r p b).answer ≡ fed_as.Took consumed written ended → length w ≡ written
+  count : (consumed written : ℕ) (ended : Option Report) → (take_of r p b).answer ≡ Ok (taking consumed written ended) → length w ≡ written
   unfolding take_of fed_by
-  count consumed written ended e = cc
+  count consumed written ended e = ap (λ (a : Advance). a.written) (ok_same e)
 
   kept : (written : ℕ) → length w ≡ written → OutputKept r p b written
   kept written e = record {
@@ -53,6 +57,6 @@ module _ (r : Reader) (p : List ℕ) (b : Lent) (v : verdict_of r (length p) (le
 pub output_exactly : OutputExactly
 output_exactly r p b consumed written ended e = go (verdict_of r (length p) (length b.gathering) (length b.addresses) (length b.output)) refl
   where
-    go : (v : Verdict) → verdict_of r (length p) (length b.gathering) (length b.addresses) (length b.output) ≡ v → OutputKept r p b written
-    go (Refused why) v = zero_one (let z = ap (λ (x : Feeding). x.answer) (feed_refused r p b why v) ∙ e in cc)
-    go Accepted v = kept r p b v written (count r p b v consumed written ended (ap (λ (x : Feeding). x.answer) (feed_taken r p b v) ∙ e))
+    go : (v : (Result (Unit {0}) Refusal)) → verdict_of r (length p) (length b.gathering) (length b.addresses) (length b.output) ≡ v → OutputKept r p b written
+    go (Err why) v = zero_one (let z = ap (λ (x : Feeding). x.answer) (feed_refused r p b why v) ∙ e in cc)
+    go (Ok tt) v = kept r p b v written (count r p b v consumed written ended (ap (λ (x : Feeding). x.answer) (feed_taken r p b v) ∙ e))

@@ -1,7 +1,7 @@
 -- What an ended capsule reports and what is forwarded, for every role, limit, draft setting and opting in. Assumes nothing.
+use Rattle.std.specs.Prelude.{Option, Some, None}
 use Rattle.walks.proofs.Words.{◌≡◌, arith, refl, sym, ap, ◌∙◌, ◌↔◌, subst, ℕ, ◌≤◌, ◌<◌, Bool, true, false, ◌&&◌, ◌||◌, List, [], ◌∷◌, ◌++◌, leb, eqb}
-use Rattle.capsule_laws.proofs.Terms.{is_address_type, longest_address_value, well_formed, Role, Endpoint, Intermediary, Kind, Datagram, Address, Unknown, Opening, Report, Delivered, Dropped, Skipped, Passed, AddressDelivered, Malformed, Ended, Stage, in_type, in_length, in_value, Capsule, opted, kind_of, forwards_by, forwards, finishes, finishes_in, parts_for, only_if, from_capsules, from_tail, from_parts, forwarded, reported, zero_one, no_true, IsAddress, IsDatagram, MalformedExactly, AddressDeliveredExactly, DatagramExactly, DeliveredExactly, DroppedExactly, PassedExactly, SkippedExactly, FinishesExactly, if_passed, passed_bytes, TypeComplete, ForwardedExactly}
-use Rattle.planning.specs.declared.Ended.TheVariants as ended
+use Rattle.capsule_laws.proofs.Terms.{is_address_type, longest_address_value, well_formed, Role, Endpoint, Intermediary, Kind, Datagram, Address, Unknown, Opening, Report, Delivered, Dropped, Skipped, Passed, AddressDelivered, Malformed, Stage, in_type, in_length, in_value, Capsule, opted, kind_of, forwards_by, forwards, finishes, finishes_in, parts_for, only_if, from_capsules, from_tail, from_parts, forwarded, reported, zero_one, no_true, IsAddress, IsDatagram, MalformedExactly, AddressDeliveredExactly, DatagramExactly, DeliveredExactly, DroppedExactly, PassedExactly, SkippedExactly, FinishesExactly, if_passed, passed_bytes, TypeComplete, ForwardedExactly}
 use Rattle.capsule_laws.proofs.{Graphs.Reports, Graphs.delivered, Graphs.dropped, Graphs.skipped, Graphs.passed, Graphs.address, Graphs.malformed, Graphs.report_is, Graphs.reports_of, Addresses.address_exactly, Addresses.datagram_test, Addresses.by_tests}
 
 -- ---- the kind
@@ -168,11 +168,11 @@ malformed_last (Passed t n) = (λ e. no_true e, λ h. zero_one (cc h.2))
 malformed_last (AddressDelivered t n) = (λ e. no_true e, λ h. zero_one (cc h.2))
 malformed_last (Malformed t n) = (λ e. (t, n, refl), λ h. refl)
 
-last_ended : (e : Ended) → (finishes_in e ≡ true) ↔ ((t : ℕ) × (n : ℕ) × (e ≡ ended.Capsule (Malformed t n)))
+last_ended : (e : Option Report) → (finishes_in e ≡ true) ↔ ((t : ℕ) × (n : ℕ) × (e ≡ Some (Malformed t n)))
 unfolding finishes_in
-last_ended ended.Nothing = (λ e. no_true e, λ h. zero_one (cc h.2))
-last_ended (ended.Capsule r) = (
-  λ e. (let m = (malformed_last r).0 e in (m.0, m.1, ap ended.Capsule m.2)),
+last_ended None = (λ e. no_true e, λ h. zero_one (cc h.2))
+last_ended (Some r) = (
+  λ e. (let m = (malformed_last r).0 e in (m.0, m.1, ap Some m.2)),
   λ h. (malformed_last r).1 (h.0, h.1, cc h.2),
 )
 

@@ -1,15 +1,15 @@
 -- The state after a list of calls, by the consumed bytes and the reader's own finished mark, and how many capsules it reports, whatever buffers
 -- are lent. Assumes nothing.
+use Rattle.std.specs.Prelude.{Some, None, Ok}
 use Rattle.walks.proofs.Words.{◌≡◌, refl, sym, ap, ◌∙◌, subst, ℕ, Bool, true, false, List, [], ◌∷◌, ◌++◌, append_assoc, append-nil, length, take, take-length, ◌+◌, arith, length-append}
-use Rattle.capsule_laws.proofs.Terms.{Bytes, Role, Opening, Ready, Reader, Lent, Call, feed, run, Reply, refused, fed, closed, finishes_in, parts_for, append, new_book, phase_of, reader_of, of_book, opening, open_of, fed_by, take_of, feed_reply, reader_call, judged_in, plan_of, CallBytes, AllBytes, consumed_by, consumed_in, StateDecided, Short, AllShort, reports_in, reports, Report, Plan, Front, part, whole, front_by, Capsule, Parts, extent_of, report_of, no_true}
+use Rattle.capsule_laws.proofs.Terms.{Bytes, Role, Opening, Reader, Lent, Call, feed, run, Reply, refused, fed, closed, finishes_in, parts_for, append, new_book, phase_of, reader_of, of_book, opening, open_of, fed_by, take_of, feed_reply, reader_call, judged_in, plan_of, CallBytes, AllBytes, consumed_by, consumed_in, StateDecided, Short, AllShort, reports_in, reports, Report, Plan, Front, part, whole, front_by, Capsule, Parts, extent_of, report_of, no_true}
 use Rattle.capsule_laws.proofs.{Appending.one, Appending.Shows, Appending.shows, Appending.tail_shows, Appending.for_bytes, Appending.parts_goes, Appending.parts-ends, Appending.append-ends, Lists.open_fresh, Lists.fresh_book, Origins.planned, Plans.plan_at, Plans.plan-is, Steps.count-is, Steps.nothing_is, Marks.short_report, Graphs.Calls, Graphs.refuses_piece, Graphs.takes_piece, Graphs.refuses_close, Graphs.closes, Graphs.calls, Consuming.consumed_exactly}
-use Rattle.planning.specs.declared.Ended.TheVariants as ended
 
 -- ---- a piece ends a capsule exactly if its consumed bytes complete one
 
 data Step (op : Opening) (s p : List ℕ) (plan : Plan) : Type 0 where
-  goes : plan.ended ≡ ended.Nothing → (parts_for op (s ++ take plan.consumed p)).capsules ≡ (parts_for op s).capsules → Step op s p plan
-  ends : (c : Capsule) → plan.ended ≡ ended.Capsule (report_of op c.ctype c.size)
+  goes : plan.ended ≡ None → (parts_for op (s ++ take plan.consumed p)).capsules ≡ (parts_for op s).capsules → Step op s p plan
+  ends : (c : Capsule) → plan.ended ≡ Some (report_of op c.ctype c.size)
       → (parts_for op (s ++ take plan.consumed p)).capsules ≡ (parts_for op s).capsules ++ (c ∷ []) → Step op s p plan
 
 step : (op : Opening) (s p : List ℕ) → Bytes s → Step op s p (plan_of op p (phase_of op (parts_for op s)))
@@ -59,7 +59,7 @@ by_step op s p a plan w n (goes e g) = rw e (record {
   short = λ f h. rw g h;
 })
 by_step op s p a plan w n (ends c e g) = rw e (record {
-  is = λ i. record { opening = op; phase = n i; finished = finishes_in (judged_in (ended.Capsule (report_of op c.ctype c.size)) a) };
+  is = λ i. record { opening = op; phase = n i; finished = finishes_in (judged_in (Some (report_of op c.ctype c.size)) a) };
   bytes = w;
   count = ap length g ∙ length-append (parts_for op s).capsules (c ∷ []);
   unfinished = λ f. refl;
@@ -109,7 +109,7 @@ all op s f (c ∷ cs) w h =
       short = λ e i. b.short e (a.short (b.unfinished e) i);
     })
 
-module _ (role : Role) (limit : ℕ) (draft addresses : Bool) (r : Reader) (e : open_of role limit draft addresses ≡ Ready r) where
+module _ (role : Role) (limit : ℕ) (draft addresses : Bool) (r : Reader) (e : open_of role limit draft addresses ≡ Ok r) where
   starts-at : r ≡ reader_of (opening role limit draft addresses) [] false
   starts-at = (open_fresh role limit draft addresses r e).1 ∙ (unfold of_book new_book in fresh_book (opening role limit draft addresses))
 

@@ -1,7 +1,8 @@
 -- One accepted feeding: what the reader does is what the book says. Assumes nothing.
-use Rattle.walks.proofs.Words.{◌≡◌, refl, sym, ap, ◌∙◌, subst, ℕ, ◌+◌, ◌-◌, ◌≤◌, ◌<◌, arith, true, none, List, [], ◌++◌, length, take, drop, take-length}
-use Rattle.capsule_laws.proofs.Terms.{Bytes, held_bytes, bytes-append, bytes_take, empty-is, Opening, Plan, InType, Ended, Nothing, Stage, in_type, in_length, in_value, Front, part, whole, front_by, Parts, longest_address_value, opted, extent_of, forwards, gathers, keeps, parts_for, only_if, forwarded, Taken, append, reported, ended_by, payload_by, phase_at, phase_of, no_bytes, plan_head, plan_of, held_of, wrote, judged_in, front_of, StandsAt}
-use Rattle.planning.specs.declared.Ended.TheVariants.{Capsule}
+use Rattle.std.specs.Prelude.{Option, Some, None}
+use Rattle.opening.specs.declared.Report.{Report}
+use Rattle.walks.proofs.Words.{◌≡◌, refl, sym, ap, ◌∙◌, subst, ℕ, ◌+◌, ◌-◌, ◌≤◌, ◌<◌, arith, true, List, [], ◌++◌, length, take, drop, take-length}
+use Rattle.capsule_laws.proofs.Terms.{Bytes, held_bytes, bytes-append, bytes_take, empty-is, Opening, Plan, InType, Stage, in_type, in_length, in_value, Front, part, whole, front_by, Parts, longest_address_value, opted, extent_of, forwards, gathers, keeps, parts_for, only_if, forwarded, Taken, append, reported, ended_by, payload_by, phase_at, phase_of, no_bytes, plan_head, plan_of, held_of, wrote, judged_in, front_of, StandsAt}
 use Rattle.capsule_laws.proofs.{Grammar.part_none, Appending.Shows, Appending.shows, Appending.tail_shows, Appending.for_bytes, Appending.parts_goes, Appending.parts-ends, Appending.append_goes, Appending.append-ends, Plans.plan_at, Plans.plan-is, Forwarding.forwarded_goes, Forwarding.forwarded-ends, Gathering.after, Gathering.gathering_buffer, Gathering.second_buffer, Gathering.goes_in, Gathering.ends_in, Gathering.same_report, Gathering.same_payload}
 
 -- the plan, against what the book makes of the piece: g is the gathering buffer, a the second one
@@ -29,7 +30,7 @@ count-is op r p in_type = refl
 count-is op r p (in_length t j) = refl
 count-is op r p (in_value t n j) = refl
 
-pub nothing_is : (op : Opening) (r p : List ℕ) (y : Stage) → (plan_at op r p (part y)).ended ≡ Nothing
+pub nothing_is : (op : Opening) (r p : List ℕ) (y : Stage) → (plan_at op r p (part y)).ended ≡ None
 unfolding plan_at plan_head
 nothing_is op r p in_type = refl
 nothing_is op r p (in_length t j) = refl
@@ -48,7 +49,7 @@ module _ (op : Opening) (s p g a : List ℕ) (w : Bytes s) (h : Bytes p) where
 
   module _ (m : op.limit ≤ length g) (o : opted op ≡ true → longest_address_value ≤ length a) (sg : StandsAt (gathers op) r x g) (sa : StandsAt (keeps op) r x a) where
     -- no capsule ends
-    same_goes : (y : Stage) → Shows op (r ++ p) (part y) → Same op s p g a (plan_at op r p (part y)) (record { stream = s ++ p; consumed = length p; capsule = none })
+    same_goes : (y : Stage) → Shows op (r ++ p) (part y) → Same op s p g a (plan_at op r p (part y)) (record { stream = s ++ p; consumed = length p; capsule = None })
     unfolding ended_by payload_by front_of phase_of judged_in
     same_goes y v =
         let e = parts_goes op s p y v in
@@ -59,7 +60,7 @@ module _ (op : Opening) (s p g a : List ℕ) (w : Bytes s) (h : Bytes p) where
           consumed = c;
           most = omega arith;
           progress = λ l. omega arith;
-          ended = ap (λ (z : Ended). judged_in z (after plan.keep plan p a)) (nothing_is op r p y);
+          ended = ap (λ (z : Option Report). judged_in z (after plan.keep plan p a)) (nothing_is op r p y);
           writes = forwarded_goes op s w p y v ∙ ap (λ (n : ℕ). forwarded op s ++ wrote plan.forward (held_of (phase_at op r x)) n p) (sym c);
           payload = refl;
           gathered = subst (λ (z : Parts). StandsAt (gathers op) z.tail z.stage (after plan.store plan p g)) (sym e) (goes_in op (gathers op) (λ (z : Plan). z.store) r p g x (tail_shows op s) sg (gathering_buffer op g m) y v);
@@ -84,7 +85,7 @@ module _ (op : Opening) (s p g a : List ℕ) (w : Bytes s) (h : Bytes p) where
           consumed = sym d.last;
           most = omega (arith, d.last, d.most);
           progress = λ i. omega (arith, d.last, d.some_byte);
-          ended = ap Capsule (same_report op t n g' a' value hg ha);
+          ended = ap Some (same_report op t n g' a' value hg ha);
           writes = forwarded-ends op s w q t n j d.seen d.all ∙ ap (λ (l : List ℕ). forwarded op s ++ l) (wrote_front d.count (j + extent_of op t n - length r) d.last);
           payload = same_payload op t n g' a' value hg ha;
           gathered = subst (λ (z : Parts). StandsAt (gathers op) z.tail z.stage g') (sym e) tt;

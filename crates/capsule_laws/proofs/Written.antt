@@ -1,14 +1,16 @@
 -- A type of one byte, a shortest length and that many bytes are, by the grammar, one complete capsule. Assumes nothing.
+use Rattle.std.specs.Prelude.{Some}
+use Rattle.short_forms.specs.Short.{varint_of}
 use Rattle.walks.proofs.Words.{◌≡◌, sym, ap, ◌∙◌, subst, ℕ, ◌+◌, ◌≤◌, arith, one-add, List, [], ◌∷◌, ◌++◌, length, drop, length-append, drop_at}
-use Rattle.capsule_laws.proofs.Terms.{Whole, largest, read_varint, least_size, encode, read_back, length-encode, encode_one, size-at, width_0, plain, in_type, whole, parts}
+use Rattle.capsule_laws.proofs.Terms.{largest, read_varint, least_size, encode, read_back, length-encode, encode_one, size-at, width_0, plain, in_type, whole, parts}
 use Rattle.capsule_laws.proofs.Grammar.{Sees, sees_whole, parts-one}
 
-type_read : (t : ℕ) → t ≤ 63 → (rest : List ℕ) → read_varint (t ∷ rest) ≡ Whole t 1
+type_read : (t : ℕ) → t ≤ 63 → (rest : List ℕ) → read_varint (t ∷ rest) ≡ Some (varint_of t 1)
 type_read t h rest =
-    let a : read_varint (encode t ++ rest) ≡ Whole t (least_size t) = (read_back t (unfold largest in omega arith) rest).0 in
+    let a : read_varint (encode t ++ rest) ≡ Some (varint_of t (least_size t)) = (read_back t (unfold largest in omega arith) rest).0 in
     let b : encode t ≡ t ∷ [] = sym (encode_one t h) in
     let c : least_size t ≡ 1 = sym (size-at t 0 (width_0 t h)) in
-    subst (λ (l : List ℕ). read_varint (l ++ rest) ≡ Whole t 1) b (a ∙ ap (Whole t) c)
+    subst (λ (l : List ℕ). read_varint (l ++ rest) ≡ Some (varint_of t 1)) b (a ∙ ap (λ (k : ℕ). Some (varint_of t k)) c)
 
 module _ (t : ℕ) (v : List ℕ) where
   abbrev pub written : List ℕ

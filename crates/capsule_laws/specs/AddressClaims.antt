@@ -1,6 +1,6 @@
 -- What holds of address capsules (RFC 9484; document 02, request 4) for every role, limit, draft setting and opting in. Proved in
 -- proofs/Addresses.antt and proofs/Buffers.antt.
-use Rattle.std.specs.Prelude.{◌≡◌, ◌↔◌, ◌⊎◌, ℕ, ◌+◌, ◌-◌, ◌≤◌, ◌<◌, Bool, true, false, cond, ◌&&◌, List, ◌++◌, length, take, drop, leb}
+use Rattle.std.specs.Prelude.{◌≡◌, ◌↔◌, ◌⊎◌, ℕ, ◌+◌, ◌-◌, ◌≤◌, ◌<◌, Bool, true, false, cond, ◌&&◌, List, ◌++◌, length, take, drop, leb, Ok, Err}
 use Rattle.std.proofs.lemmas.List.Edits.{sets}
 use Rattle.refusals.specs.Numbers.{limit_too_large, addresses_too_short}
 use Rattle.wire.specs.Bytes.{Bytes}
@@ -10,10 +10,7 @@ use Rattle.opening.specs.declared.Role.TheVariants.{Endpoint}
 use Rattle.opening.specs.declared.Kind.TheVariants.{Address}
 use Rattle.opening.specs.declared.Opening.{Opening}
 use Rattle.opening.specs.declared.Report.TheVariants.{AddressDelivered, Malformed}
-use Rattle.capsule.specs.declared.reader.FeedAnswer.TheVariants as fed_as
-use Rattle.capsule.specs.declared.reader.Opened.TheVariants as opened
 use Rattle.capsule.specs.declared.reader.Reader.{Reader}
-use Rattle.opening.specs.declared.Verdict.TheVariants.{Accepted}
 use Rattle.capsule.specs.Grammar.{Extent, in_type, in_length, in_value, Front, part, whole, front_by, Capsule}
 use Rattle.opening.specs.Kinds.{kind_of, extent_of, gathers, keeps}
 use Rattle.capsule.specs.Calls.{Lent}
@@ -52,7 +49,7 @@ AddressDeliveredExactly =
 abbrev pub AddressesTooShortExactly : Type 0
 AddressesTooShortExactly =
     (r : Reader) (p : List ℕ) (b : Lent)
-    → ((feed_of r p b).answer ≡ fed_as.Refused addresses_too_short)
+    → ((feed_of r p b).answer ≡ Err addresses_too_short)
     ↔ (is_makeable r ≡ true)
     × (r.finished ≡ false)
     × (r.opening.limit ≤ length b.gathering)
@@ -98,15 +95,15 @@ abbrev pub BuffersExactly : Type 0
 BuffersExactly =
     (op : Opening) (s p : List ℕ) (b : Lent)
     → Bytes s
-    → verdict_of (reader_of op s false) (length p) (length b.gathering) (length b.addresses) (length b.output) ≡ Accepted
+    → verdict_of (reader_of op s false) (length p) (length b.gathering) (length b.addresses) (length b.output) ≡ (Ok tt)
     → Stored op s p b
 
 -- ---- opening, and other types
 
 -- refused 3 exactly above 65,535, whatever role and settings
 pub record Opens (role : Role) (limit : ℕ) (draft addresses : Bool) : Type 0 where
-  pub refused : 65535 < limit → open_of role limit draft addresses ≡ opened.Refused limit_too_large
-  pub ready : limit ≤ 65535 → open_of role limit draft addresses ≡ opened.Ready (fresh (opening role limit draft addresses))
+  pub refused : 65535 < limit → open_of role limit draft addresses ≡ Err limit_too_large
+  pub ready : limit ≤ 65535 → open_of role limit draft addresses ≡ Ok (fresh (opening role limit draft addresses))
 
 abbrev pub OpenExactly : Type 0
 OpenExactly = (role : Role) (limit : ℕ) (draft addresses : Bool) → Opens role limit draft addresses

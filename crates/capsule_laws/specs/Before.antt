@@ -1,7 +1,10 @@
 -- The definitions that request 4 changed, as they stood before it (over the declared types of today), for the law that a reader that did not
 -- opt in answers as before. What did not change is cited.
-use Rattle.std.specs.Prelude.{ℕ, suc, ◌+◌, ◌-◌, Bool, true, false, cond, ◌&&◌, ◌||◌, List, [], ◌∷◌, ◌++◌, length, take, drop, leb, ltb, eqb}
-use Rattle.std.proofs.Math.Option.{Option, none, some}
+use Rattle.capsule.specs.declared.reader.Advance.{Advance}
+use Rattle.refusals.specs.declared.Refusal.{Refusal}
+use Rattle.capsule.specs.Reader.{taking}
+use Rattle.std.specs.Prelude.{ℕ, suc, ◌+◌, ◌-◌, Bool, true, false, cond, ◌&&◌, ◌||◌, List, [], ◌∷◌, ◌++◌, length, take, drop, leb, ltb, eqb, Some, None, Result, Ok, Err}
+use Rattle.std.specs.Prelude.{Option}
 use Rattle.std.proofs.lemmas.List.Edits.{sets}
 use Rattle.refusals.specs.Numbers.{unmakeable_state, finished, gathering_too_short}
 use Rattle.wire.specs.declared.partial.Partial.{Partial}
@@ -19,14 +22,7 @@ use Rattle.planning.specs.declared.Plan.{Plan}
 use Rattle.planning.specs.declared.Phase.{Phase}
 use Rattle.planning.specs.declared.Phase.TheVariants.{InType, InLength, InValue}
 use Rattle.capsule.specs.declared.reader.Reader.{Reader}
-use Rattle.planning.specs.declared.Ended.{Ended}
-use Rattle.planning.specs.declared.Ended.TheVariants.{Nothing, Capsule}
-use Rattle.capsule.specs.declared.reader.FeedAnswer.{FeedAnswer}
-use Rattle.capsule.specs.declared.reader.FeedAnswer.TheVariants as fed_as
-use Rattle.capsule.specs.declared.reader.CloseAnswer.TheVariants as closed_as
 use Rattle.capsule.specs.declared.reader.Closed.{Closed}
-use Rattle.opening.specs.declared.Verdict.{Verdict}
-use Rattle.opening.specs.declared.Verdict.TheVariants.{Accepted, Refused}
 use Rattle.capsule.specs.Grammar as grammar
 use Rattle.capsule.specs.Grammar.{Parts, parts}
 use Rattle.capsule.specs.Calls.{Call, feed, close, Reply, refused, fed, closed}
@@ -76,9 +72,9 @@ only_delivered (Malformed t n) value = []
 
 -- ---- refusals
 
-unfoldable pub lent_verdict : Opening → ℕ → ℕ → ℕ → Verdict
+unfoldable pub lent_verdict : Opening → ℕ → ℕ → ℕ → Result (Unit {0}) Refusal
 lent_verdict op piece gathering output =
-    cond (leb op.limit gathering) (output_verdict op.role piece output) (Refused gathering_too_short)
+    cond (leb op.limit gathering) (output_verdict op.role piece output) (Err gathering_too_short)
 
 unfoldable pub is_makeable_phase : Phase → Bool
 is_makeable_phase (InType part) = is_partial part
@@ -88,19 +84,19 @@ is_makeable_phase (InValue t n left) = leb t largest && (leb n largest && (ltb 0
 unfoldable pub is_makeable : Reader → Bool
 is_makeable r = is_opening r.opening && is_makeable_phase r.phase
 
-unfoldable pub verdict_of : Reader → ℕ → ℕ → ℕ → Verdict
+unfoldable pub verdict_of : Reader → ℕ → ℕ → ℕ → Result (Unit {0}) Refusal
 verdict_of r piece gathering output =
     cond (is_makeable r)
-    (cond r.finished (Refused finished) (lent_verdict r.opening piece gathering output))
-    (Refused unmakeable_state)
+    (cond r.finished (Err finished) (lent_verdict r.opening piece gathering output))
+    (Err unmakeable_state)
 
 -- ---- feeding
 
 unfoldable pub plan_value : Opening → List ℕ → ℕ → ℕ → ℕ → ℕ → Plan
 plan_value op p at t n left =
     cond (leb left (length p - at))
-    (record { next = InType no_bytes; consumed = at + left; ended = Capsule (report_of op t n); forward = forwards op t; store = gathers op t n; keep = false; at = at; place = n - left })
-    (record { next = InValue t n (left - (length p - at)); consumed = length p; ended = Nothing; forward = forwards op t; store = gathers op t n; keep = false; at = at; place = n - left })
+    (record { next = InType no_bytes; consumed = at + left; ended = Some (report_of op t n); forward = forwards op t; store = gathers op t n; keep = false; at = at; place = n - left })
+    (record { next = InValue t n (left - (length p - at)); consumed = length p; ended = None; forward = forwards op t; store = gathers op t n; keep = false; at = at; place = n - left })
 
 unfoldable pub plan_length : Opening → List ℕ → ℕ → ℕ → Partial → Plan
 plan_length op p at t part = elim (take_varint part (drop at p)) [
@@ -123,11 +119,11 @@ plan_of op p (InValue t n left) = plan_value op p 0 t n left
 
 pub record Feeding : Type 0 where
   pub reader : Reader
-  pub answer : FeedAnswer
+  pub answer : Result Advance Refusal
   pub gathering : List ℕ
   pub output : List ℕ
 
-abbrev pub feeding : Reader → FeedAnswer → List ℕ → List ℕ → Feeding
+abbrev pub feeding : Reader → Result Advance Refusal → List ℕ → List ℕ → Feeding
 feeding r a g o = record { reader = r; answer = a; gathering = g; output = o }
 
 unfoldable pub fed_by : Opening → Partial → List ℕ → List ℕ → List ℕ → Plan → Feeding
@@ -135,16 +131,16 @@ fed_by op held p g o plan =
     let w = wrote plan.forward held plan.consumed p in
     feeding
     (record { opening = op; phase = plan.next; finished = false })
-    (fed_as.Took plan.consumed (length w) plan.ended)
+    (Ok (taking plan.consumed (length w) plan.ended))
     (stored plan.store plan.at plan.consumed plan.place p g)
     (sets o 0 w)
 
 unfoldable pub take_of : Reader → List ℕ → List ℕ → List ℕ → Feeding
 take_of r p g o = fed_by r.opening (held_of r.phase) p g o (plan_of r.opening p r.phase)
 
-unfoldable pub feed_by : Reader → List ℕ → List ℕ → List ℕ → Verdict → Feeding
-feed_by r p g o (Refused why) = feeding r (fed_as.Refused why) g o
-feed_by r p g o Accepted = take_of r p g o
+unfoldable pub feed_by : Reader → List ℕ → List ℕ → List ℕ → Result (Unit {0}) Refusal → Feeding
+feed_by r p g o (Err why) = feeding r (Err why) g o
+feed_by r p g o (Ok tt) = take_of r p g o
 
 unfoldable pub feed_of : Reader → List ℕ → List ℕ → List ℕ → Feeding
 feed_of r p g o = feed_by r p g o (verdict_of r (length p) (length g) (length o))
@@ -153,9 +149,9 @@ unfoldable pub close_of : Reader → Closed
 close_of r =
     cond (is_makeable r)
     (cond r.finished
-    (closing r (closed_as.Refused finished))
-    (closing (record { opening = r.opening; phase = r.phase; finished = true }) (end_at r.phase)))
-    (closing r (closed_as.Refused unmakeable_state))
+    (closing r (Err finished))
+    (closing (record { opening = r.opening; phase = r.phase; finished = true }) (Ok (end_at r.phase))))
+    (closing r (Err unmakeable_state))
 
 -- ---- the book
 
@@ -178,35 +174,35 @@ unfoldable pub completes : List ℕ → ℕ → Option grammar.Capsule
 completes s b = first_of (drop (length (parts s).capsules) (parts (s ++ (b ∷ []))).capsules)
 
 unfoldable pub append : List ℕ → List ℕ → Taken
-append s [] = record { stream = s; consumed = 0; capsule = none }
+append s [] = record { stream = s; consumed = 0; capsule = None }
 append s (b ∷ p) =
     let rest = append (s ++ (b ∷ [])) p in
     elim (completes s b) [
-      | none ↦ record { stream = rest.stream; consumed = suc rest.consumed; capsule = rest.capsule }
-      | some c ↦ record { stream = s ++ (b ∷ []); consumed = 1; capsule = some c }
+      | None ↦ record { stream = rest.stream; consumed = suc rest.consumed; capsule = rest.capsule }
+      | Some c ↦ record { stream = s ++ (b ∷ []); consumed = 1; capsule = Some c }
     ]
 
 unfoldable pub reported : Opening → grammar.Capsule → Report
 reported op c = report_of op c.ctype (length c.value)
 
-unfoldable pub ended_by : Opening → Option grammar.Capsule → Ended
-ended_by op none = Nothing
-ended_by op (some c) = Capsule (reported op c)
+unfoldable pub ended_by : Opening → Option grammar.Capsule → Option Report
+ended_by op None = None
+ended_by op (Some c) = Some (reported op c)
 
 unfoldable pub payload_by : Opening → Option grammar.Capsule → List ℕ
-payload_by op none = []
-payload_by op (some c) = only_delivered (reported op c) c.value
+payload_by op None = []
+payload_by op (Some c) = only_delivered (reported op c) c.value
 
-unfoldable pub book_verdict : Book → List ℕ → List ℕ → List ℕ → Verdict
+unfoldable pub book_verdict : Book → List ℕ → List ℕ → List ℕ → Result (Unit {0}) Refusal
 book_verdict k piece g o =
-    cond k.mark (Refused finished) (lent_verdict k.opening (length piece) (length g) (length o))
+    cond k.mark (Err finished) (lent_verdict k.opening (length piece) (length g) (length o))
 
 unfoldable pub gained : Opening → List ℕ → List ℕ → List ℕ
 gained op before after = drop (length (forwarded op before)) (forwarded op after)
 
-unfoldable pub book_feed : Book → List ℕ → Verdict → Book × Reply
-book_feed k piece (Refused r) = (k, refused r)
-book_feed k piece Accepted =
+unfoldable pub book_feed : Book → List ℕ → Result (Unit {0}) Refusal → Book × Reply
+book_feed k piece (Err r) = (k, refused r)
+book_feed k piece (Ok tt) =
     let t = append k.stream piece in
     let w = gained k.opening k.stream t.stream in (
       record { opening = k.opening; stream = t.stream; mark = k.mark },
@@ -232,13 +228,13 @@ length_of (Passed t n) = n
 length_of (AddressDelivered t n) = n
 length_of (Malformed t n) = n
 
-unfoldable pub front_of : Ended → List ℕ → List ℕ
-front_of Nothing g = []
-front_of (Capsule r) g = only_delivered r (take (length_of r) g)
+unfoldable pub front_of : Option Report → List ℕ → List ℕ
+front_of None g = []
+front_of (Some r) g = only_delivered r (take (length_of r) g)
 
-unfoldable pub feed_reply : FeedAnswer → List ℕ → List ℕ → Reply
-feed_reply (fed_as.Refused r) g o = refused r
-feed_reply (fed_as.Took consumed written ended) g o = fed consumed written (take written o) ended (front_of ended g)
+unfoldable pub feed_reply : Result Advance Refusal → List ℕ → List ℕ → Reply
+feed_reply (Err r) g o = refused r
+feed_reply (Ok took) g o = fed took.consumed took.written (take took.written o) took.ended (front_of took.ended g)
 
 unfoldable pub reader_call : Reader → Call → Reader × Reply
 reader_call r (feed p b) =

@@ -1,6 +1,7 @@
 -- What holds of grammar, book and reader. Each claim is a type here, and is proved in proofs/ under the name given.
-use Rattle.std.specs.Prelude.{◌≡◌, ◌↔◌, ℕ, ◌-◌, ◌≤◌, ◌<◌, Bool, true, false, ◌||◌, List, [], ◌∷◌, ◌++◌, map, length, take, drop}
-use Rattle.std.proofs.Math.Option.{Option, none, some}
+use Rattle.capsule.specs.Reader.{taking}
+use Rattle.std.specs.Prelude.{◌≡◌, ◌↔◌, ℕ, ◌-◌, ◌≤◌, ◌<◌, Bool, true, false, ◌||◌, List, [], ◌∷◌, ◌++◌, map, length, take, drop, Some, None, Result, Ok, Err}
+use Rattle.std.specs.Prelude.{Option}
 use Rattle.refusals.specs.declared.Refusal.{Refusal}
 use Rattle.refusals.specs.Numbers.{unmakeable_state, finished}
 use Rattle.wire.specs.Bytes.{Bytes}
@@ -9,12 +10,6 @@ use Rattle.opening.specs.declared.Opening.{Opening}
 use Rattle.opening.specs.declared.Report.{Report}
 use Rattle.opening.specs.declared.Report.TheVariants as report
 use Rattle.capsule.specs.declared.reader.Reader.{Reader}
-use Rattle.capsule.specs.declared.reader.Opened.TheVariants.{Ready}
-use Rattle.planning.specs.declared.Ended.{Ended}
-use Rattle.planning.specs.declared.Ended.TheVariants as ended
-use Rattle.capsule.specs.declared.reader.FeedAnswer.TheVariants as fed_as
-use Rattle.opening.specs.declared.Verdict.{Verdict}
-use Rattle.opening.specs.declared.Verdict.TheVariants.{Accepted, Refused}
 use Rattle.capsule.specs.Grammar.{Extent, Stage, in_type, in_length, in_value, part, whole, front_by, Capsule, parts_by, parts}
 use Rattle.opening.specs.Kinds.{opted, extent_of, finishes, gathers, keeps}
 use Rattle.capsule.specs.Calls.{Lent, lent, Call, feed, close, Reply, refused, fed, closed, run, finishes_in}
@@ -105,27 +100,27 @@ Agrees op r cs = run reader_call r cs ≡ (of_book (run book_call (new_book op) 
 -- each feeding that the book accepts is lent the two buffers for values as the last accepted one left them; the second one is asked for of
 -- endpoints that opted in alone
 abbrev pub Follows : Opening → Option Lent → Lent → Type 0
-Follows op none b = Unit {0}
-Follows op (some l) b = (b.gathering ≡ l.gathering) × (opted op ≡ true → b.addresses ≡ l.addresses)
+Follows op None b = Unit {0}
+Follows op (Some l) b = (b.gathering ≡ l.gathering) × (opted op ≡ true → b.addresses ≡ l.addresses)
 
-unfoldable pub left_by : Verdict → Option Lent → Lent → Option Lent
-left_by Accepted last b = some b
-left_by (Refused r) last b = last
+unfoldable pub left_by : (Result (Unit {0}) Refusal) → Option Lent → Lent → Option Lent
+left_by (Ok tt) last b = Some b
+left_by (Err r) last b = last
 
 abbrev pub HandedOn : Option Lent → Book → Reader → List Call → Type 0
 HandedOn last k r [] = Unit {0}
 HandedOn last k r (feed p b ∷ cs) =
-    (book_verdict k p b ≡ Accepted → Follows k.opening last b)
+    (book_verdict k p b ≡ (Ok tt) → Follows k.opening last b)
     × HandedOn (left_by (book_verdict k p b) last (feed_of r p b).buffers) (book_call k (feed p b)).0 (reader_call r (feed p b)).0 cs
 HandedOn last k r (close ∷ cs) = HandedOn last (book_call k close).0 (reader_call r close).0 cs
 
 abbrev pub Demand3 : Type 0
 Demand3 =
     (role : Role) (limit : ℕ) (draft addresses : Bool) (r : Reader)
-    → open_of role limit draft addresses ≡ Ready r
+    → open_of role limit draft addresses ≡ Ok r
     → (cs : List Call)
     → AllBytes cs
-    → HandedOn none (new_book (opening role limit draft addresses)) r cs
+    → HandedOn None (new_book (opening role limit draft addresses)) r cs
     → Agrees (opening role limit draft addresses) r cs
 
 -- the same for hosts that change the buffers between capsules: only the value bytes that were gathered have to stand at their fronts
@@ -142,13 +137,13 @@ Stands k b = StandsBy (gathers k.opening) k b.gathering × StandsBy (keeps k.ope
 
 abbrev pub LentWell : Book → List Call → Type 0
 LentWell k [] = Unit {0}
-LentWell k (feed p b ∷ cs) = (book_verdict k p b ≡ Accepted → Stands k b) × LentWell (book_call k (feed p b)).0 cs
+LentWell k (feed p b ∷ cs) = (book_verdict k p b ≡ (Ok tt) → Stands k b) × LentWell (book_call k (feed p b)).0 cs
 LentWell k (close ∷ cs) = LentWell (book_call k close).0 cs
 
 abbrev pub Demand3Standing : Type 0
 Demand3Standing =
     (role : Role) (limit : ℕ) (draft addresses : Bool) (r : Reader)
-    → open_of role limit draft addresses ≡ Ready r
+    → open_of role limit draft addresses ≡ Ok r
     → (cs : List Call)
     → AllBytes cs
     → LentWell (new_book (opening role limit draft addresses)) cs
@@ -171,7 +166,7 @@ consumed_in (c ∷ cs) (x ∷ xs) = consumed_by c x ++ consumed_in cs xs
 abbrev pub StateDecided : Type 0
 StateDecided =
     (role : Role) (limit : ℕ) (draft addresses : Bool) (r : Reader)
-    → open_of role limit draft addresses ≡ Ready r
+    → open_of role limit draft addresses ≡ Ok r
     → (cs : List Call)
     → AllBytes cs
     → let after = run reader_call r cs in
@@ -181,13 +176,13 @@ StateDecided =
 -- decide whether the reader is finished (proofs/Makeable.antt)
 abbrev pub AddressesWell : Book → List Call → Type 0
 AddressesWell k [] = Unit {0}
-AddressesWell k (feed p b ∷ cs) = (book_verdict k p b ≡ Accepted → StandsBy (keeps k.opening) k b.addresses) × AddressesWell (book_call k (feed p b)).0 cs
+AddressesWell k (feed p b ∷ cs) = (book_verdict k p b ≡ (Ok tt) → StandsBy (keeps k.opening) k b.addresses) × AddressesWell (book_call k (feed p b)).0 cs
 AddressesWell k (close ∷ cs) = AddressesWell (book_call k close).0 cs
 
 abbrev pub StateOfBook : Type 0
 StateOfBook =
     (role : Role) (limit : ℕ) (draft addresses : Bool) (r : Reader)
-    → open_of role limit draft addresses ≡ Ready r
+    → open_of role limit draft addresses ≡ Ok r
     → (cs : List Call)
     → AllBytes cs
     → AddressesWell (new_book (opening role limit draft addresses)) cs
@@ -197,7 +192,7 @@ StateOfBook =
 abbrev pub StateOfPlainBook : Type 0
 StateOfPlainBook =
     (role : Role) (limit : ℕ) (draft addresses : Bool) (r : Reader)
-    → open_of role limit draft addresses ≡ Ready r
+    → open_of role limit draft addresses ≡ Ok r
     → opted (opening role limit draft addresses) ≡ false
     → (cs : List Call)
     → AllBytes cs
@@ -205,9 +200,9 @@ StateOfPlainBook =
 
 -- ---- over the whole list (proofs/Lists.antt): with `Demand3`, of the reader's answers too
 
-unfoldable pub reports_in : Ended → List Report
-reports_in ended.Nothing = []
-reports_in (ended.Capsule r) = r ∷ []
+unfoldable pub reports_in : Option Report → List Report
+reports_in None = []
+reports_in (Some r) = r ∷ []
 
 unfoldable pub reports : List Reply → List Report
 reports [] = []
@@ -237,9 +232,9 @@ if_address (report.Malformed t n) value = []
 abbrev pub Wanted : Type 0
 Wanted = Report → List ℕ → List (List ℕ)
 
-unfoldable pub values_in : Wanted → Ended → List ℕ → List (List ℕ)
-values_in want ended.Nothing payload = []
-values_in want (ended.Capsule r) payload = want r payload
+unfoldable pub values_in : Wanted → Option Report → List ℕ → List (List ℕ)
+values_in want None payload = []
+values_in want (Some r) payload = want r payload
 
 unfoldable pub values : Wanted → List Reply → List (List ℕ)
 values want [] = []
@@ -329,7 +324,7 @@ pub record Makes (r : Reader) : Type 0 where
   pub draft : Bool
   pub addresses : Bool
   pub start : Reader
-  pub opens : open_of role limit draft addresses ≡ Ready start
+  pub opens : open_of role limit draft addresses ≡ Ok start
   pub calls : List Call
   pub bytes : AllBytes calls
   pub makes : (run reader_call start calls).0 ≡ r
@@ -345,16 +340,16 @@ StaysMakeable = (r : Reader) (p : List ℕ) (b : Lent) → Bytes p → is_makeab
 abbrev pub RefusedUnchanged : Type 0
 RefusedUnchanged =
     (r : Reader) (p : List ℕ) (b : Lent) (why : Refusal)
-    → (feed_of r p b).answer ≡ fed_as.Refused why
+    → (feed_of r p b).answer ≡ Err why
     → ((feed_of r p b).reader ≡ r) × ((feed_of r p b).buffers ≡ b)
 
 -- an accepted piece that is not empty loses at least one byte (proofs/Makeable.antt)
 abbrev pub Progress : Type 0
 Progress =
-    (r : Reader) (p : List ℕ) (b : Lent) (consumed written : ℕ) (e : Ended)
+    (r : Reader) (p : List ℕ) (b : Lent) (consumed written : ℕ) (e : Option Report)
     → Bytes p
     → 0 < length p
-    → (feed_of r p b).answer ≡ fed_as.Took consumed written e
+    → (feed_of r p b).answer ≡ Ok (taking consumed written e)
     → 0 < consumed
 
 -- ---- a reader that takes no address capsules, since it did not opt in or is an intermediary's (proofs/NotOpted.antt): as before request 4, and

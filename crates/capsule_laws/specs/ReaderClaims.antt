@@ -1,7 +1,8 @@
 -- What holds of every reader, whatever its role, limit, draft setting and opting in (document 01, "Capsule streams"). Each claim is proved in the file
 -- given, under its name in lower case with dashes.
-use Rattle.std.specs.Prelude.{◌≡◌, ◌↔◌, ◌⊎◌, ℕ, ◌≤◌, ◌<◌, Bool, true, false, List, [], ◌∷◌, ◌++◌, length, take, drop}
-use Rattle.std.proofs.Math.Option.{none, some}
+use Rattle.capsule.specs.declared.reader.Ending.TheVariants.{Clean, Truncated}
+use Rattle.capsule.specs.Reader.{taking}
+use Rattle.std.specs.Prelude.{◌≡◌, ◌↔◌, ◌⊎◌, ℕ, ◌≤◌, ◌<◌, Bool, true, false, List, [], ◌∷◌, ◌++◌, length, take, drop, Option, Some, None, Ok, Err}
 use Rattle.refusals.specs.declared.Refusal.{Refusal}
 use Rattle.refusals.specs.Numbers.{unmakeable_state}
 use Rattle.wire.specs.Bytes.{Bytes}
@@ -11,13 +12,7 @@ use Rattle.opening.specs.declared.Kind.TheVariants as kind
 use Rattle.opening.specs.declared.Opening.{Opening}
 use Rattle.opening.specs.declared.Report.{Report}
 use Rattle.opening.specs.declared.Report.TheVariants.{Delivered, Dropped, Skipped, Passed, AddressDelivered, Malformed}
-use Rattle.planning.specs.declared.Ended.{Ended}
-use Rattle.planning.specs.declared.Ended.TheVariants as ended
-use Rattle.capsule.specs.declared.reader.FeedAnswer.TheVariants as fed_as
-use Rattle.capsule.specs.declared.reader.CloseAnswer.TheVariants as closed_as
-use Rattle.capsule.specs.declared.reader.Opened.TheVariants as opened
 use Rattle.capsule.specs.declared.reader.Reader.{Reader}
-use Rattle.opening.specs.declared.Verdict.TheVariants.{Accepted}
 use Rattle.capsule.specs.Grammar.{Stage, in_type, in_length, in_value, Capsule}
 use Rattle.opening.specs.Kinds.{kind_of, finishes, length_of}
 use Rattle.capsule.specs.Calls.{Lent, Call, feed, close, fed, closed, run, finishes_in}
@@ -39,11 +34,11 @@ pub record OpenedWith (role : Role) (limit : ℕ) (draft addresses : Bool) (r : 
 
 abbrev pub OpenedAsNamed : Type 0
 OpenedAsNamed =
-    (role : Role) (limit : ℕ) (draft addresses : Bool) (r : Reader) → open_of role limit draft addresses ≡ opened.Ready r → OpenedWith role limit draft addresses r
+    (role : Role) (limit : ℕ) (draft addresses : Bool) (r : Reader) → open_of role limit draft addresses ≡ Ok r → OpenedWith role limit draft addresses r
 
 -- a refused close hands back the state; with `RefusedUnchanged` of a feeding
 abbrev pub RefusedCloseUnchanged : Type 0
-RefusedCloseUnchanged = (r : Reader) (why : Refusal) → (close_of r).answer ≡ closed_as.Refused why → (close_of r).reader ≡ r
+RefusedCloseUnchanged = (r : Reader) (why : Refusal) → (close_of r).answer ≡ Err why → (close_of r).reader ≡ r
 
 -- ---- the table "What an ended capsule reports" (proofs/Reports.antt)
 
@@ -74,7 +69,7 @@ SkippedExactly =
 abbrev pub FinishesExactly : Type 0
 FinishesExactly =
     ((r : Report) → (finishes r ≡ true) ↔ ((t : ℕ) × (n : ℕ) × (r ≡ Malformed t n)))
-    × ((e : Ended) → (finishes_in e ≡ true) ↔ ((t : ℕ) × (n : ℕ) × (e ≡ ended.Capsule (Malformed t n))))
+    × ((e : Option Report) → (finishes_in e ≡ true) ↔ ((t : ℕ) × (n : ℕ) × (e ≡ Some (Malformed t n))))
 
 -- ---- forwarded bytes (proofs/Reports.antt)
 
@@ -116,8 +111,8 @@ ForwardedExactly = (op : Opening) (s : List ℕ) → Forwarding op s
 pub record Consumes (op : Opening) (s p : List ℕ) (k : Taken) : Type 0 where
   pub stream : k.stream ≡ s ++ take k.consumed p
   pub within : k.consumed ≤ length p
-  pub all : k.capsule ≡ none → (k.consumed ≡ length p) × ((parts_for op (s ++ p)).capsules ≡ (parts_for op s).capsules)
-  pub first : (c : Capsule) → k.capsule ≡ some c
+  pub all : k.capsule ≡ None → (k.consumed ≡ length p) × ((parts_for op (s ++ p)).capsules ≡ (parts_for op s).capsules)
+  pub first : (c : Capsule) → k.capsule ≡ Some c
       → (0 < k.consumed) × (parts_for op (s ++ take k.consumed p) ≡ record { capsules = (parts_for op s).capsules ++ (c ∷ []); tail = []; stage = in_type })
 
 -- of the book, and so by `Demand3` of the reader
@@ -126,19 +121,19 @@ ConsumedExactly = (op : Opening) (s p : List ℕ) → Consumes op s p (append op
 
 -- clean exactly if the tail is empty
 abbrev pub EndExactly : Type 0
-EndExactly = (tail : List ℕ) → ((end_of tail ≡ closed_as.Clean) ↔ (tail ≡ [])) × ((end_of tail ≡ closed_as.Truncated) ↔ (tail ≡ [] → ⊥))
+EndExactly = (tail : List ℕ) → ((end_of tail ≡ Clean) ↔ (tail ≡ [])) × ((end_of tail ≡ Truncated) ↔ (tail ≡ [] → ⊥))
 
 -- so of the book's own calls, and by `Demand3` of the reader's: a feeding that was accepted consumed all of the piece, and no capsule ended in it; or up to and
 -- including the byte that ends the first one, which is the one that is reported
-abbrev pub UpTo : Opening → List ℕ → List ℕ → ℕ → Ended → Type 0
+abbrev pub UpTo : Opening → List ℕ → List ℕ → ℕ → Option Report → Type 0
 UpTo op s p consumed e =
-    ((e ≡ ended.Nothing) × (consumed ≡ length p) × ((parts_for op (s ++ p)).capsules ≡ (parts_for op s).capsules))
-    ⊎ ((c : Capsule) × (e ≡ ended.Capsule (reported op c)) × (consumed ≤ length p)
+    ((e ≡ None) × (consumed ≡ length p) × ((parts_for op (s ++ p)).capsules ≡ (parts_for op s).capsules))
+    ⊎ ((c : Capsule) × (e ≡ Some (reported op c)) × (consumed ≤ length p)
     × (parts_for op (s ++ take consumed p) ≡ record { capsules = (parts_for op s).capsules ++ (c ∷ []); tail = []; stage = in_type }))
 
 abbrev pub FedExactly : Type 0
 FedExactly =
-    (k : Book) (p : List ℕ) (b : Lent) (consumed written : ℕ) (w : List ℕ) (e : Ended) (payload : List ℕ)
+    (k : Book) (p : List ℕ) (b : Lent) (consumed written : ℕ) (w : List ℕ) (e : Option Report) (payload : List ℕ)
     → (book_call k (feed p b)).1 ≡ fed consumed written w e payload
     → UpTo k.opening k.stream p consumed e
 
@@ -151,7 +146,7 @@ abbrev pub ClosesExactly : Type 0
 ClosesExactly =
     (k : Book) → k.mark ≡ false
     → let tail = (parts_for k.opening k.stream).tail in
-    (tail ≡ [] → (book_call k close).1 ≡ closed closed_as.Clean) × ((tail ≡ [] → ⊥) → (book_call k close).1 ≡ closed closed_as.Truncated)
+    (tail ≡ [] → (book_call k close).1 ≡ closed Clean) × ((tail ≡ [] → ⊥) → (book_call k close).1 ≡ closed Truncated)
 
 -- the length that a report tells
 abbrev pub LengthTold : Type 0
@@ -171,8 +166,8 @@ pub record OutputKept (r : Reader) (p : List ℕ) (b : Lent) (written : ℕ) : T
 
 abbrev pub OutputExactly : Type 0
 OutputExactly =
-    (r : Reader) (p : List ℕ) (b : Lent) (consumed written : ℕ) (e : Ended)
-    → (feed_of r p b).answer ≡ fed_as.Took consumed written e
+    (r : Reader) (p : List ℕ) (b : Lent) (consumed written : ℕ) (e : Option Report)
+    → (feed_of r p b).answer ≡ Ok (taking consumed written e)
     → OutputKept r p b written
 
 -- ---- refusal 1 cannot arise from an opening, whatever is lent (proofs/Arising.antt)
@@ -180,7 +175,7 @@ OutputExactly =
 abbrev pub ReaderNeverUnmakeable : Type 0
 ReaderNeverUnmakeable =
     (role : Role) (limit : ℕ) (draft addresses : Bool) (r : Reader)
-    → open_of role limit draft addresses ≡ opened.Ready r
+    → open_of role limit draft addresses ≡ Ok r
     → (cs : List Call)
     → AllBytes cs
     → NoneIs unmakeable_state (run reader_call r cs).1
@@ -194,7 +189,7 @@ StandsAfter =
     → is_opening k.opening ≡ true
     → Bytes k.stream
     → Bytes p
-    → book_verdict k p b ≡ Accepted
+    → book_verdict k p b ≡ (Ok tt)
     → Stands k b
     → Stands (book_call k (feed p b)).0 (feed_of (of_book k) p b).buffers
 
@@ -202,8 +197,8 @@ StandsAfter =
 abbrev pub HandedOnStands : Type 0
 HandedOnStands =
     (role : Role) (limit : ℕ) (draft addresses : Bool) (r : Reader)
-    → open_of role limit draft addresses ≡ opened.Ready r
+    → open_of role limit draft addresses ≡ Ok r
     → (cs : List Call)
     → AllBytes cs
-    → HandedOn none (new_book (opening role limit draft addresses)) r cs
+    → HandedOn None (new_book (opening role limit draft addresses)) r cs
     → LentWell (new_book (opening role limit draft addresses)) cs

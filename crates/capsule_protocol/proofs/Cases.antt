@@ -1,6 +1,8 @@
 -- The cases, computed; those of whole values by the stages that they run through. Assumes nothing.
+use Rattle.std.specs.Prelude.{Ok, Err}
+use Rattle.std.specs.Prelude.{true, false}
 use Rattle.walks.proofs.Words.{◌≡◌, refl, ap, cond, ℕ, List, map, leb, length}
-use Rattle.capsule_protocol.proofs.Terms.{Rule, empty, one, every, up_to, ◌then◌, ◌then_many◌, is_lower, is_alpha, is_digit, is_key_start, is_key_byte, is_unescaped, is_escapable, is_token_start, is_token_byte, is_base64, is_bit, sf_integer, sf_decimal, chr, sf_string, sf_token, sf_binary, sf_boolean, bare_item, key, in_use, field_of, at, Front, may_end, may_end_at, next_at, at_if, within, one_more, after_item, after_digits, first_of_bare_item, Classes, Kinds, Cases, values_in_use, values_absent, long_values, text, InUse, Absent, Refused, field_too_long}
+use Rattle.capsule_protocol.proofs.Terms.{Rule, empty, one, every, up_to, ◌then◌, ◌then_many◌, is_lower, is_alpha, is_digit, is_key_start, is_key_byte, is_unescaped, is_escapable, is_token_start, is_token_byte, is_base64, is_bit, sf_integer, sf_decimal, chr, sf_string, sf_token, sf_binary, sf_boolean, bare_item, key, in_use, field_of, at, Front, may_end, may_end_at, next_at, at_if, within, one_more, after_item, after_digits, first_of_bare_item, Classes, Kinds, Cases, values_in_use, values_absent, long_values, text, field_too_long}
 use Rattle.capsule_protocol.proofs.Runs.{run, in_use_run}
 
 kinds : Kinds
@@ -26,5 +28,5 @@ cases = record {
   kinds = kinds;
   used = read_so values_in_use;
   absent = read_so values_absent;
-  lengths = ap (λ (x : Rule). map (λ (s : List ℕ). cond (leb (length s) 1024) (cond (x s) InUse Absent) (Refused field_too_long)) long_values) (λ i s. in_use_run s i);
+  lengths = ap (λ (x : Rule). map (λ (s : List ℕ). cond (leb (length s) 1024) (cond (x s) (Ok true) (Ok false)) (Err field_too_long)) long_values) (λ i s. in_use_run s i);
 }

@@ -1,7 +1,8 @@
 -- One byte more: what the grammar asks for after it, stage by stage. Assumes nothing.
-use Rattle.walks.proofs.Words.{◌≡◌, refl, sym, ap, ◌∙◌, Bool, true, false, cond, ◌&&◌, ◌||◌, or-false, and-false, and-true, zero-add, false≢true, ℕ, suc, ◌<◌, ◌≤◌, arith, ◌+◌, add-one, List, [], ◌∷◌, length, get_or, drop, drop-cons, drop_of_length-le, eqb, leb, leb-true, lt-leb, ltb, eqb-true, ltb-false}
-use Rattle.capsule_protocol.proofs.Terms.{Rule, Class, empty, one, every, up_to, ◌then◌, ◌then_many◌, is, is_space, is_lower, is_alpha, is_digit, is_key_start, is_key_byte, is_unescaped, is_escapable, is_token_start, is_token_byte, is_base64, is_bit, sf_integer, sf_decimal, chr, sf_string, sf_token, sf_binary, sf_boolean, bare_item, key, parameters, true_item, in_use, Stage, Reading, Front, Question, Item, Trailing, Semicolon, Key, Equals, Number, Fraction, Text, Escape, Token, Binary, Boolean, Wrong, at, at_if, within, one_more, after_item, after_digits, first_of_bare_item, next_at, rest_of, rest_at, up_to_after, next_of, may_end, may_end_at, Stays, SameRest}
+use Rattle.walks.proofs.Words.{◌≡◌, refl, sym, ap, ◌∙◌, Bool, true, false, cond, ◌&&◌, ◌||◌, or-false, and-false, and-true, zero-add, false≢true, ℕ, suc, arith, ◌+◌, ◌-◌, List, [], ◌∷◌, length, take, take_all, length-drop, drop, eqb, leb, leb-true, lt-leb, ltb, eqb-true, ltb-false}
+use Rattle.capsule_protocol.proofs.Terms.{Rule, Class, empty, one, every, up_to, ◌then◌, ◌then_many◌, is, is_space, is_lower, is_alpha, is_digit, is_key_start, is_key_byte, is_unescaped, is_escapable, is_token_start, is_token_byte, is_base64, is_bit, sf_integer, sf_decimal, chr, sf_string, sf_token, sf_binary, sf_boolean, bare_item, key, parameters, true_item, in_use, Stage, Reading, Front, Question, Item, Trailing, Semicolon, Key, Equals, Number, Fraction, Text, Escape, Token, Binary, Boolean, Wrong, at, at_if, within, one_more, after_item, after_digits, first_of_bare_item, next_at, rest_of, rest_at, up_to_after, next_of, may_end, may_end_at, Stays, stays_at, SameRest}
 use Rattle.capsule_protocol.proofs.Joining.{front_same, back_same, then_then, then_one, then_every}
+use Rattle.std.specs.List.{prefix_len, IsFirstAndRest}
 use mathlib.Core.Bool.{and-eq-true_iff}
 use Rattle.capsule_protocol.proofs.Firsts.{none_came, then_up_to, too_many, bare_item_first, string_next, value-first, key-first, parameters-first}
 
@@ -240,17 +241,6 @@ from_front s =
     then_then (one (is 0x3f)) (one (is 0x31) then parameters) (every is_space) t
     ∙ back_same (one (is 0x3f)) (then_then (one (is 0x31)) parameters (every is_space)) t) s
 
-pub next_from : (v : List ℕ) (i : ℕ) (r q : Reading) → i < length v → q ≡ next_of r (get_or v i 0)
-    → rest_of (every is_space) r (drop i v) ≡ rest_of (every is_space) q (drop (i + 1) v)
-next_from v i r q h e = rw (add-one, drop-cons v i 0, e) (next-rest (every is_space) space_run r (get_or v i 0) (drop (suc i) v))
-
-pub ends_from : (v : List ℕ) (i : ℕ) (r : Reading) → length v ≤ i → rest_of (every is_space) r (drop i v) ≡ may_end r
-ends_from v i r h = rw drop_of_length-le (spaces-end r)
-
-pub wrong_from : (v : List ℕ) (r : Reading) → r.stage ≡ Wrong → false ≡ rest_of (every is_space) r v
-unfolding rest_at
-wrong_from v r e = rw e
-
 -- ---- bytes that leave the stage as it is
 
 module _ (b : ℕ) (r : Reading) where
@@ -279,5 +269,50 @@ module _ (b : ℕ) (r : Reading) (h : eqb b 0x20 ≡ true) where
   unfolding next_at rest_at
   front_stays e s = next-rest (every is_space) space_run r b s ∙ rw (e, h)
 
-pub stays_from : (v : List ℕ) (i : ℕ) (r : Reading) → i < length v → Stays r (get_or v i 0) → SameRest r v i (i + 1)
-stays_from v i r h k = rw (add-one, drop-cons v i 0) (k (drop (suc i) v))
+stays : (b : ℕ) (r : Reading) → stays_at r.stage b ≡ true → Stays r b
+unfolding stays_at
+stays b r h = go r.stage refl h
+  where
+    go : (stage : Stage) → r.stage ≡ stage → stays_at stage b ≡ true → Stays r b
+    go Key e h = key_stays b r e h
+    go Text e h = string_stays b r e h
+    go Token e h = token_stays b r e h
+    go Binary e h = binary_stays b r e h
+    go Trailing e h = trailing_stays b r h e
+    go Front e h = front_stays b r h e
+    go Question e h = absurd (false≢true h)
+    go Item e h = absurd (false≢true h)
+    go Semicolon e h = absurd (false≢true h)
+    go Equals e h = absurd (false≢true h)
+    go Number e h = absurd (false≢true h)
+    go Fraction e h = absurd (false≢true h)
+    go Escape e h = absurd (false≢true h)
+    go Boolean e h = absurd (false≢true h)
+    go Wrong e h = absurd (false≢true h)
+
+pub run_stays : (r : Reading) (s : List ℕ) → SameRest r s 0 (prefix_len (stays_at r.stage) s)
+run_stays r [] = refl
+run_stays r (b ∷ s) = go (run_stays r s) (stays_at r.stage b) refl
+  where
+    go : SameRest r s 0 (prefix_len (stays_at r.stage) s) → (t : Bool) → stays_at r.stage b ≡ t
+        → rest_of (every is_space) r (b ∷ s) ≡ rest_of (every is_space) r (drop (cond t (1 + prefix_len (stays_at r.stage) s) 0) (b ∷ s))
+    go h true e = let k : 1 + prefix_len (stays_at r.stage) s ≡ suc (prefix_len (stays_at r.stage) s) = omega arith in rw k (stays b r e s ∙ h)
+    go h false e = refl
+
+-- a byte, and the bytes behind it that leave the stage as it is
+module _ (v s t : List ℕ) (b : ℕ) (r q : Reading) (e : in_use v ≡ rest_of (every is_space) r s) (f : IsFirstAndRest s b t) (n : q ≡ next_of r b) where
+  next_from : in_use v ≡ rest_of (every is_space) q t
+  next_from = e ∙ rw (f.0, n) (next-rest (every is_space) space_run r b t)
+
+  pub run_from : (k : ℕ) → k ≡ prefix_len (stays_at q.stage) t → in_use v ≡ rest_of (every is_space) q (take (length t - k) (drop k t))
+  run_from k h =
+      let all : take (length t - k) (drop k t) ≡ drop k t = take_all (length t - k) (drop k t) (omega (arith, length-drop k t)) in
+      next_from ∙ rw (all, h) (run_stays q t)
+
+  pub wrong_from : q.stage ≡ Wrong → false ≡ in_use v
+  unfolding rest_at
+  wrong_from w = sym (next_from ∙ rw w)
+
+pub ends_from : (v s : List ℕ) (r : Reading) → in_use v ≡ rest_of (every is_space) r s → length s ≡ 0 → may_end r ≡ in_use v
+ends_from v [] r e h = sym (spaces-end r) ∙ sym e
+ends_from v (b ∷ s) r e h = absurd (let z : ⊥ = omega arith in z)

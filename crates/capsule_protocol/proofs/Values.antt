@@ -1,7 +1,8 @@
 -- Which values are in use. Assumes nothing.
+use Rattle.std.specs.Prelude.{Ok, Err}
 use Rattle.walks.proofs.Words.{◌≡◌, refl, sym, ap, subst, ◌∙◌, ◌↔◌, Bool, true, false, cond, ◌≤◌, ◌<◌, length-append, length-replicate, leb, leb-true, leb-false, ℕ, List, [], ◌∷◌, ◌++◌, append_assoc, append-nil, length, get_or, eqb, eqb-true, arith, ◌&&◌}
 use mathlib.Core.Bool.{and-eq-true_iff}
-use Rattle.capsule_protocol.proofs.Terms.{Rule, empty, one, every, ◌then◌, many, is, is_space, parameter, parameters, true_item, in_use, field_of, InUse, Absent, Refused, field_too_long, zero_one, may_end, at, Front, spaces, In, joined, AllIn, FieldExactly, InUseExactly, BareTrueInUse, SpacesIgnored, ParameterAdded}
+use Rattle.capsule_protocol.proofs.Terms.{Rule, empty, one, every, ◌then◌, many, is, is_space, parameter, parameters, true_item, in_use, field_of, field_too_long, zero_one, may_end, at, Front, spaces, In, joined, AllIn, FieldExactly, InUseExactly, BareTrueInUse, SpacesIgnored, ParameterAdded}
 use Rattle.capsule_protocol.proofs.Exactly.{only_spaces, spaces_only, one_exactly, then_exactly, then_so, many_exactly, many_so}
 use Rattle.capsule_protocol.proofs.Runs.{run, run-append, in_use_run, spaces-end-run, spaces_in_front}
 
@@ -63,9 +64,9 @@ field_exactly s = go (leb (length s) 1024) refl (in_use s) refl
   where
     Answered : Bool → Bool → Type 0
     Answered short right =
-        ((cond short (cond right InUse Absent) (Refused field_too_long) ≡ InUse) ↔ ((length s ≤ 1024) × (right ≡ true)))
-        × ((cond short (cond right InUse Absent) (Refused field_too_long) ≡ Absent) ↔ ((length s ≤ 1024) × (right ≡ false)))
-        × ((cond short (cond right InUse Absent) (Refused field_too_long) ≡ Refused field_too_long) ↔ (1024 < length s))
+        ((cond short (cond right (Ok true) (Ok false)) (Err field_too_long) ≡ (Ok true)) ↔ ((length s ≤ 1024) × (right ≡ true)))
+        × ((cond short (cond right (Ok true) (Ok false)) (Err field_too_long) ≡ (Ok false)) ↔ ((length s ≤ 1024) × (right ≡ false)))
+        × ((cond short (cond right (Ok true) (Ok false)) (Err field_too_long) ≡ Err field_too_long) ↔ (1024 < length s))
 
     go : (short : Bool) → leb (length s) 1024 ≡ short → (right : Bool) → in_use s ≡ right → Answered short right
     go true e true f =

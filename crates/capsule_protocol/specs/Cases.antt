@@ -1,9 +1,8 @@
 -- Cases of RFC 8941's kinds at their borders, and those of document 02's request 5; of classes, every byte. One statement carries
 -- them: `Cases`, proved in proofs/Cases.antt.
-use Rattle.std.specs.Prelude.{ℕ, zero, suc, ◌+◌, ◌≡◌, true, false, cond, List, [], ◌∷◌, map, replicate}
+use Rattle.std.specs.Prelude.{ℕ, zero, suc, ◌+◌, ◌≡◌, true, false, cond, List, [], ◌∷◌, map, replicate, Ok, Err}
 use Rattle.refusals.specs.Numbers.{field_too_long}
 use Rattle.text_bytes.specs.Text.{text}
-use Rattle.capsule_protocol.specs.declared.field.FieldValue.TheVariants.{InUse, Absent, Refused}
 use Rattle.capsule_protocol.specs.Rules.{Rule, Class}
 use Rattle.capsule_protocol.specs.Bytes.{is_digit, is_key_start, is_key_byte, is_unescaped, is_escapable, is_token_start, is_token_byte, is_base64, is_bit}
 use Rattle.capsule_protocol.specs.Items.{sf_integer, sf_decimal, sf_string, sf_token, sf_binary, sf_boolean, bare_item, key}
@@ -132,4 +131,4 @@ pub record Cases : Type 0 where
   pub kinds : Kinds
   pub used : Accepts in_use values_in_use
   pub absent : Rejects in_use values_absent
-  pub lengths : map field_of long_values ≡ InUse ∷ Refused field_too_long ∷ Absent ∷ Refused field_too_long ∷ []
+  pub lengths : map field_of long_values ≡ (Ok true) ∷ Err field_too_long ∷ (Ok false) ∷ Err field_too_long ∷ []

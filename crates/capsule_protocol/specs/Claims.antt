@@ -1,9 +1,8 @@
 -- What holds of the definitions, at every byte string. Each claim is a type here, and is proved in the file given under its name in lower case
 -- with underscores.
-use Rattle.std.specs.Prelude.{◌≡◌, ◌↔◌, ◌⊎◌, ℕ, ◌+◌, ◌≤◌, ◌<◌, true, false, ◌||◌, List, [], ◌∷◌, ◌++◌, length, get_or, replicate}
+use Rattle.std.specs.Prelude.{◌≡◌, ◌↔◌, ◌⊎◌, ℕ, ◌+◌, ◌≤◌, ◌<◌, true, false, ◌||◌, List, [], ◌∷◌, ◌++◌, length, get_or, replicate, Ok, Err}
 use Rattle.capsule_protocol.specs.Rules.{Rule, Class, empty, one, every, up_to, ◌then◌, many}
 use Rattle.refusals.specs.Numbers.{field_too_long}
-use Rattle.capsule_protocol.specs.declared.field.FieldValue.TheVariants.{InUse, Absent, Refused}
 use Rattle.capsule_protocol.specs.Bytes.{is, is_digit, is_key_start, is_key_byte, is_unescaped, is_escapable, is_token_start, is_token_byte, is_base64}
 use Rattle.capsule_protocol.specs.Items.{sf_integer, sf_decimal, chr, sf_string, sf_token, sf_binary, sf_boolean, bare_item, key, parameter, parameters, sf_item}
 use Rattle.capsule_protocol.specs.Field.{in_use, field_of}
@@ -111,13 +110,13 @@ InUseExactly = (s : List ℕ) → In in_use s ↔ ((i : ℕ) × (j : ℕ) × (p 
 abbrev pub FieldExactly : Type 0
 FieldExactly =
     (s : List ℕ)
-    → ((field_of s ≡ InUse) ↔ ((length s ≤ 1024) × In in_use s))
-    × ((field_of s ≡ Absent) ↔ ((length s ≤ 1024) × (in_use s ≡ false)))
-    × ((field_of s ≡ Refused field_too_long) ↔ (1024 < length s))
+    → ((field_of s ≡ (Ok true)) ↔ ((length s ≤ 1024) × In in_use s))
+    × ((field_of s ≡ (Ok false)) ↔ ((length s ≤ 1024) × (in_use s ≡ false)))
+    × ((field_of s ≡ Err field_too_long) ↔ (1024 < length s))
 
 -- what document 01 took is in use, up to 1,024 bytes
 abbrev pub BareTrueInUse : Type 0
-BareTrueInUse = (i j : ℕ) → i + (2 + j) ≤ 1024 → field_of (spaces i ++ (0x3f ∷ 0x31 ∷ spaces j)) ≡ InUse
+BareTrueInUse = (i j : ℕ) → i + (2 + j) ≤ 1024 → field_of (spaces i ++ (0x3f ∷ 0x31 ∷ spaces j)) ≡ (Ok true)
 
 -- spaces at either end do not matter
 abbrev pub SpacesIgnored : Type 0

@@ -1,8 +1,8 @@
 -- The value of the Capsule-Protocol field (RFC 9297, section 3.4; document 02, request 5).
-use Rattle.std.specs.Prelude.{ℕ, cond, List, leb, length}
+use Rattle.refusals.specs.declared.Refusal.{Refusal}
+use Rattle.std.specs.Prelude.{Bool, true, false}
+use Rattle.std.specs.Prelude.{ℕ, cond, List, leb, length, Result, Ok, Err}
 use Rattle.refusals.specs.Numbers.{field_too_long}
-use Rattle.capsule_protocol.specs.declared.field.FieldValue.{FieldValue}
-use Rattle.capsule_protocol.specs.declared.field.FieldValue.TheVariants.{InUse, Absent, Refused}
 use Rattle.capsule_protocol.specs.Rules.{Rule, every, ◌then◌}
 use Rattle.capsule_protocol.specs.Bytes.{is_space}
 use Rattle.capsule_protocol.specs.Items.{true_item}
@@ -12,5 +12,5 @@ unfoldable pub in_use : Rule
 in_use = every is_space then true_item then every is_space
 
 -- whatever is no such item counts as absent; a value longer than 1,024 bytes is refused
-unfoldable pub field_of : List ℕ → FieldValue
-field_of value = cond (leb (length value) 1024) (cond (in_use value) InUse Absent) (Refused field_too_long)
+unfoldable pub field_of : List ℕ → Result Bool Refusal
+field_of value = cond (leb (length value) 1024) (cond (in_use value) (Ok true) (Ok false)) (Err field_too_long)

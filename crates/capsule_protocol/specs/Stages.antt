@@ -105,6 +105,24 @@ may_end_at Wrong n = false
 abbrev pub may_end : Reading → Bool
 may_end r = may_end_at r.stage r.digits
 
+-- the bytes that the code passes over at once: they leave the stage as it is
+unfoldable pub stays_at : Stage → Class
+stays_at Key b = is_key_byte b
+stays_at Text b = is_unescaped b
+stays_at Token b = is_token_byte b
+stays_at Binary b = is_base64 b
+stays_at Trailing b = is_space b
+stays_at Front b = is_space b
+stays_at Question b = false
+stays_at Item b = false
+stays_at Semicolon b = false
+stays_at Equals b = false
+stays_at Number b = false
+stays_at Fraction b = false
+stays_at Escape b = false
+stays_at Boolean b = false
+stays_at Wrong b = false
+
 -- a byte that leaves what is asked for as it is
 abbrev pub Stays : Reading → ℕ → Type 0
 Stays r b = (s : List ℕ) → rest_of (every is_space) r (b ∷ s) ≡ rest_of (every is_space) r s

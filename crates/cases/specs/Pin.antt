@@ -1,10 +1,12 @@
 -- A case that fixes a reading of documents 01 and 02: what it asks, and what it expects.
-use Rattle.std.specs.Prelude.{ℕ, Bool, true, false, List, replicate}
-use Rattle.std.proofs.Math.Option.{Option}
-use Rattle.wire.specs.declared.varint.Varint.{Varint}
-use Rattle.wire.specs.declared.varint.Written.{Written}
-use Rattle.wire.specs.declared.units.QuarterOf.{QuarterOf}
-use Rattle.wire.specs.declared.units.StreamOf.{StreamOf}
+use Rattle.refusals.specs.declared.Refusal.{Refusal}
+use Rattle.capsule.specs.declared.reader.Ending.{Ending}
+use Rattle.capsule.specs.declared.reader.Advance.{Advance}
+use Rattle.wire.specs.declared.units.Quarter.{Quarter}
+use Rattle.wire.specs.declared.units.StreamId.{StreamId}
+use Rattle.short_forms.specs.declared.Varint.{Varint}
+use Rattle.std.specs.Prelude.{ℕ, Bool, true, false, List, replicate, Result}
+use Rattle.std.specs.Prelude.{Option}
 use Rattle.wire.specs.Varint.{read_varint}
 use Rattle.wire.specs.Writing.{Writing, writing, write_varint}
 use Rattle.wire.specs.Units.{quarter_of, stream_of}
@@ -16,9 +18,6 @@ use Rattle.opening.specs.declared.Role.TheVariants.{Endpoint, Intermediary}
 use Rattle.opening.specs.declared.Opening.{Opening}
 use Rattle.planning.specs.declared.Phase.{Phase}
 use Rattle.capsule.specs.declared.reader.Reader.{Reader}
-use Rattle.capsule.specs.declared.reader.Opened.{Opened}
-use Rattle.capsule.specs.declared.reader.FeedAnswer.{FeedAnswer}
-use Rattle.capsule.specs.declared.reader.CloseAnswer.{CloseAnswer}
 use Rattle.capsule.specs.declared.reader.Closed.{Closed}
 use Rattle.capsule.specs.Calls.{Lent, Call, Reply, run}
 use Rattle.capsule.specs.Book.{new_book, book_call}
@@ -31,49 +30,49 @@ use Rattle.sending.specs.Sending.{write_capsule, write_frame}
 
 pub data Pin : Type 0 where
   -- bytes, and what is read at their front
-  reads : List ℕ → Varint → Pin
+  reads : List ℕ → Option Varint → Pin
   -- a number, an output and a place; the answer, and the output afterwards
-  writes : (n : ℕ) (out : List ℕ) (place : ℕ) → Written → (after : List ℕ) → Pin
+  writes : (n : ℕ) (out : List ℕ) (place : ℕ) → Result ℕ Refusal → (after : List ℕ) → Pin
   -- a stream ID and its quarter, a quarter and its stream ID
-  quarters : ℕ → QuarterOf → Pin
-  streams : ℕ → StreamOf → Pin
+  quarters : ℕ → Option Quarter → Pin
+  streams : ℕ → Option StreamId → Pin
   -- a part of a varint, and what it comes to by more bytes
   takes : Partial → List ℕ → VarintTaken → Pin
   -- what a whole stream comes to
   lists : (role : Role) (limit : ℕ) (draft addresses : Bool) (bytes : List ℕ) → Outcome → Pin
   -- opening a reader
-  opens : (role : Role) (limit : ℕ) (draft addresses : Bool) → Opened → Pin
+  opens : (role : Role) (limit : ℕ) (draft addresses : Bool) → Result Reader Refusal → Pin
   -- a state, and whether it can be made
   makeable : Reader → Bool → Pin
   -- a state, a piece and buffers; the state, the answer and the buffers afterwards
-  feeds : Reader → (piece : List ℕ) → Lent → Reader → FeedAnswer → Lent → Pin
-  closes : Reader → Reader → CloseAnswer → Pin
+  feeds : Reader → (piece : List ℕ) → Lent → Reader → Result Advance Refusal → Lent → Pin
+  closes : Reader → Reader → Result Ending Refusal → Pin
   -- calls on a book and on a reader that were just opened, and their answers
   answers : Opening → List Call → List Reply → Pin
   -- a table, the stated stream limit, the datagram limit and a frame's payload: how it is judged, and the payload that is delivered
-  judges : (table : Table) (streams limit : ℕ) (frame : List ℕ) → Judged → (payload : List ℕ) → Pin
+  judges : (table : Table) (streams limit : ℕ) (frame : List ℕ) → Result Judged Refusal → (payload : List ℕ) → Pin
   -- a table, a stream ID, a payload, an output and a place; the answer, and the output afterwards
-  capsules : (table : Table) (id : ℕ) (payload out : List ℕ) (place : ℕ) → Written → (after : List ℕ) → Pin
+  capsules : (table : Table) (id : ℕ) (payload out : List ℕ) (place : ℕ) → Result ℕ Refusal → (after : List ℕ) → Pin
   -- besides, our setting, the peer's and the path size
-  frames : (table : Table) (id ours peers path : ℕ) (payload out : List ℕ) (place : ℕ) → Written → (after : List ℕ) → Pin
+  frames : (table : Table) (id ours peers path : ℕ) (payload out : List ℕ) (place : ℕ) → Result ℕ Refusal → (after : List ℕ) → Pin
   -- the number of a judgement's rule, and whether it delivers
-  rules : Judged → Option ℕ → Bool → Pin
+  rules : Result Judged Refusal → Option ℕ → Bool → Pin
 
 -- what the definitions say of a case, or what it expects
 pub data Answer : Type 0 where
-  varint : Varint → Answer
+  varint : Option Varint → Answer
   written : Writing → Answer
-  quarter_is : QuarterOf → Answer
-  stream_is : StreamOf → Answer
+  quarter_is : Option Quarter → Answer
+  stream_is : Option StreamId → Answer
   taken : VarintTaken → Answer
   comes : Outcome → Answer
-  opened : Opened → Answer
+  opened : Result Reader Refusal → Answer
   is_made : Bool → Answer
   fed_to : Feeding → Answer
   closed_to : Closed → Answer
   -- the book's, and the reader's
   replies : List Reply → List Reply → Answer
-  judgement : Judged → (payload : List ℕ) → Answer
+  judgement : Result Judged Refusal → (payload : List ℕ) → Answer
   rule : Option ℕ → Bool → Answer
 
 abbrev pub got : Pin → Answer

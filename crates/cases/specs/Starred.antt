@@ -1,12 +1,13 @@
 -- The starred bench cases of document 01, in a single table. One statement carries them: `AllStarred`.
-use Rattle.std.specs.Prelude.{ℕ, ◌-◌, ◌^◌, ◌≡◌, Bool, true, false, List, [], ◌∷◌, ◌++◌, map, length, take}
+use Rattle.refusals.specs.declared.Refusal.{Refusal}
+use Rattle.capsule.specs.declared.reader.Ending.{Ending}
+use Rattle.capsule.specs.declared.reader.Ending.TheVariants.{Clean, Truncated}
+use Rattle.std.specs.Prelude.{ℕ, ◌-◌, ◌^◌, ◌≡◌, Bool, true, false, List, [], ◌∷◌, ◌++◌, map, length, take, Result, Ok}
 use Rattle.opening.specs.declared.Role.{Role}
 use Rattle.opening.specs.declared.Role.TheVariants.{Endpoint, Intermediary}
 use Rattle.opening.specs.declared.Opening.{Opening}
 use Rattle.opening.specs.declared.Report.{Report}
 use Rattle.opening.specs.declared.Report.TheVariants.{Delivered, Dropped, Skipped, Passed}
-use Rattle.capsule.specs.declared.reader.CloseAnswer.{CloseAnswer}
-use Rattle.capsule.specs.declared.reader.CloseAnswer.TheVariants.{Clean, Truncated}
 use Rattle.capsule.specs.Book.{parts_for, forwarded, reported, end_of}
 use Rattle.capsule.specs.Reader.{opening}
 use Rattle.capsule_laws.specs.Claims.{if_delivered, delivered}
@@ -22,7 +23,7 @@ pub record Outcome : Type 0 where
   pub reports : List Report
   pub payloads : List (List ℕ)
   pub writes : List ℕ
-  pub ending : CloseAnswer
+  pub ending : Ending
 
 unfoldable pub outcome_of : Opening → List ℕ → Outcome
 outcome_of op s = record {
@@ -32,21 +33,21 @@ outcome_of op s = record {
   ending = end_of (parts_for op s).tail;
 }
 
-abbrev pub outcome : List Report → List (List ℕ) → List ℕ → CloseAnswer → Outcome
+abbrev pub outcome : List Report → List (List ℕ) → List ℕ → Ending → Outcome
 outcome reports payloads writes ending = record { reports = reports; payloads = payloads; writes = writes; ending = ending }
 
 pub data Case : Type 0 where
   -- read by a reader that takes no address capsules
   stream : (role : Role) (limit : ℕ) (draft : Bool) (bytes : List ℕ) → Outcome → Case
   -- a frame's payload against a table, the stated stream limit and the datagram limit: how it is judged, and the payload that is delivered
-  frame : (table : Table) (streams limit : ℕ) (bytes : List ℕ) → Judged → (payload : List ℕ) → Case
+  frame : (table : Table) (streams limit : ℕ) (bytes : List ℕ) → Result Judged Refusal → (payload : List ℕ) → Case
   -- a payload's length, and what stands before every such payload in a capsule that we write
   header : (length : ℕ) (bytes : List ℕ) → Case
 
 -- what the definitions say of a case, or what it expects
 pub data Answer : Type 0 where
   comes : Outcome → Answer
-  judgement : Judged → (payload : List ℕ) → Answer
+  judgement : Result Judged Refusal → (payload : List ℕ) → Answer
   starts : (bytes : List ℕ) → Answer
 
 abbrev pub got : Case → Answer
@@ -97,12 +98,12 @@ starred =
     ∷ stream Intermediary 1200 false [] (outcome [] [] [] Clean)
     ∷ stream Endpoint 1200 true draft_one (outcome (Delivered 1 ∷ []) ((0x7a ∷ []) ∷ []) [] Clean)
     ∷ stream Endpoint 1200 false draft_one (outcome (Skipped 16725925 1 ∷ []) [] [] Clean)
-    ∷ frame four (2 ^ 60) 1200 [] judged.ShortFrame []
-    ∷ frame four (2 ^ 60) 1200 (0x40 ∷ []) judged.ShortFrame []
-    ∷ frame four (2 ^ 60) 1200 (0x01 ∷ []) (judged.Delivered (quarter 1) 0) []
-    ∷ frame four (2 ^ 60) 1200 (0xd0 ∷ 0 ∷ 0 ∷ 0 ∷ 0 ∷ 0 ∷ 0 ∷ 0 ∷ []) (judged.QuarterTooLarge (quarter (2 ^ 60))) []
-    ∷ frame [] (2 ^ 60) 1200 (0xcf ∷ 0xff ∷ 0xff ∷ 0xff ∷ 0xff ∷ 0xff ∷ 0xff ∷ 0xff ∷ []) (judged.NoStream (quarter (2 ^ 60 - 1))) []
-    ∷ frame (blank ∷ blank ∷ []) (2 ^ 60) 1200 (0xcf ∷ 0xff ∷ 0xff ∷ 0xff ∷ 0xff ∷ 0xff ∷ 0xff ∷ 0xff ∷ []) (judged.NoStream (quarter (2 ^ 60 - 1))) []
+    ∷ frame four (2 ^ 60) 1200 [] (Ok judged.ShortFrame) []
+    ∷ frame four (2 ^ 60) 1200 (0x40 ∷ []) (Ok judged.ShortFrame) []
+    ∷ frame four (2 ^ 60) 1200 (0x01 ∷ []) ((Ok (judged.Delivered (quarter 1) 0))) []
+    ∷ frame four (2 ^ 60) 1200 (0xd0 ∷ 0 ∷ 0 ∷ 0 ∷ 0 ∷ 0 ∷ 0 ∷ 0 ∷ []) ((Ok (judged.QuarterTooLarge (quarter (2 ^ 60))))) []
+    ∷ frame [] (2 ^ 60) 1200 (0xcf ∷ 0xff ∷ 0xff ∷ 0xff ∷ 0xff ∷ 0xff ∷ 0xff ∷ 0xff ∷ []) ((Ok (judged.NoStream (quarter (2 ^ 60 - 1))))) []
+    ∷ frame (blank ∷ blank ∷ []) (2 ^ 60) 1200 (0xcf ∷ 0xff ∷ 0xff ∷ 0xff ∷ 0xff ∷ 0xff ∷ 0xff ∷ 0xff ∷ []) ((Ok (judged.NoStream (quarter (2 ^ 60 - 1))))) []
     ∷ header 63 (0x00 ∷ 0x3f ∷ [])
     ∷ header 64 (0x00 ∷ 0x40 ∷ 0x40 ∷ [])
     ∷ header 16383 (0x00 ∷ 0x7f ∷ 0xff ∷ [])

@@ -5,7 +5,8 @@ ghost use Rattle.std.specs.Prelude.{◌≡◌, ◌+◌, ◌≤◌, ◌<◌, leng
 ghost use Rattle.std.proofs.Math.Seq.{paste};
 ghost use Rattle.copying.specs.Copy.{copy, copying};
 
-// Copies n bytes of src from `from` on to dst from `to` on, and answers whether both have them; if not, nothing is changed.
+// Copies n bytes of src from `from` on to dst from `to` on, and answers whether both have them; if not, nothing is
+// changed.
 pub fn copy_span(src: &[u8], from: usize, dst: &mut [u8], to: usize, n: usize) -> bool
     ensures { copying result dst.new ≡ copy src.now from dst.old to n }
 {
@@ -25,6 +26,8 @@ pub fn copy_span(src: &[u8], from: usize, dst: &mut [u8], to: usize, n: usize) -
     true
 }
 
+// Three loops by hand: by `copy_from_slice` (tried) a feeding takes up to a tenth longer, and misses aims of `make bench`
+// that these meet.
 fn blocks(src: &[u8], from: usize, dst: &mut [u8], to: usize, n: usize)
     requires n_in_bounds { from + n ≤ length src.now }
     requires n_in_bounds_2 { to + n ≤ length dst.old }

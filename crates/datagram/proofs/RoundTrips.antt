@@ -1,6 +1,8 @@
 -- What is written is read back. Assumes nothing.
+use Rattle.std.specs.Prelude.{Some, Ok}
+use Rattle.short_forms.specs.Short.{varint_of}
 use Rattle.walks.proofs.Words.{◌≡◌, ℕ, ◌-◌, ◌^◌, ◌≤◌, arith, List, length, drop, length-append, drop_at, le-leb, lt-ltb}
-use Rattle.datagram.proofs.Terms.{Whole, largest, read_varint, least_size, encode, largest_quarter, read_back, length-encode, one_written, Delivered, Table, entry_at, quarter, judged_record, judged_entry, judged_read, judged_of, after_quarter, is_delivered, if_delivered, payload_of, capsule_header, capsule_bytes, frame_bytes, CapsuleReadBack, Receives, FrameReadBack}
+use Rattle.datagram.proofs.Terms.{largest, read_varint, least_size, encode, largest_quarter, read_back, length-encode, one_written, Delivered, Table, entry_at, quarter, judged_record, judged_entry, judged_read, judged_of, after_quarter, is_delivered, if_delivered, payload_of, capsule_header, capsule_bytes, frame_bytes, CapsuleReadBack, Receives, FrameReadBack}
 
 -- ---- capsules
 
@@ -17,7 +19,7 @@ module _ (t : Table) (streams limit q place : ℕ) (payload : List ℕ) (r : Rec
   abbrev size : ℕ
   size = least_size q
 
-  quarter-read : read_varint frame ≡ Whole q size
+  quarter-read : read_varint frame ≡ Some (varint_of q size)
   unfolding frame_bytes
   quarter-read = (read_back q (unfold largest in omega (arith, r.below, r.stated)) payload).0
 
@@ -29,7 +31,7 @@ module _ (t : Table) (streams limit q place : ℕ) (payload : List ℕ) (r : Rec
   unfolding frame_bytes
   rest-is = drop_at (encode q) payload size (length-encode q)
 
-  delivered : judged_of t streams limit frame ≡ Delivered (quarter q) place
+  delivered : judged_of t streams limit frame ≡ Ok (Delivered (quarter q) place)
   unfolding judged_of judged_read judged_entry judged_record entry_at
   delivered =
       let a : q ≤ largest_quarter = unfold largest_quarter in omega (arith, r.below, r.stated) in

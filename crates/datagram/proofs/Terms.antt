@@ -7,8 +7,8 @@ unfoldable pub use Rattle.judging.specs.{Code.judged_by, Code.payload_by, Judgin
 pub use Rattle.sending.proofs.{Deciding.header_by_lookup, Deciding.sent_by_lookup}
 unfoldable pub use Rattle.send_rights.specs.{Rights.sending_of}
 unfoldable pub use Rattle.sending.specs.{Code.capsule_by, Code.frame_by, Code.frame_header_by, Sending.capsule_bytes, Sending.capsule_header, Sending.capsule_written, Sending.frame_bytes, Sending.frame_written, Sending.write_capsule, Sending.write_frame}
-pub use Rattle.stream_records.specs.{Tables.Table, declared.answers.Lookup.Lookup}
+pub use Rattle.stream_records.specs.{Tables.Table}
 unfoldable pub use Rattle.stream_records.specs.{Tables.entry_at, Tables.is_bad, Tables.lookup_of}
 pub use Rattle.wire.proofs.{Encoding.length-encode, Encoding.read_back}
-pub use Rattle.wire.specs.{declared.units.Quarter.Quarter, declared.varint.Varint.TheVariants.Whole}
+pub use Rattle.wire.specs.{declared.units.Quarter.Quarter}
 unfoldable pub use Rattle.wire.specs.{Units.largest_quarter, Varint.encode, Varint.largest, Varint.least_size, Varint.read_varint}

@@ -1,9 +1,8 @@
 -- What holds of judging and writing together: each claim is a type here, and is proved in proofs/ under its name in lower case with dashes.
-use Rattle.std.specs.Prelude.{ℕ, ◌^◌, ◌≤◌, ◌<◌, ◌≡◌, true, false, List, [], ◌∷◌, length, get_or}
+use Rattle.std.specs.Prelude.{ℕ, ◌^◌, ◌≤◌, ◌<◌, ◌≡◌, true, false, List, [], ◌∷◌, length, get_or, Some, Ok, Err}
 use Rattle.refusals.specs.Numbers.{bad_table}
 use Rattle.wire.specs.declared.units.StreamId.{StreamId}
 use Rattle.wire.specs.Writing.{refuses}
-use Rattle.stream_records.specs.declared.answers.Found.TheVariants.{At}
 use Rattle.stream_records.specs.Records.{blank, receive_open, has_semantics}
 use Rattle.stream_records.specs.Tables.{Table, is_bad, find}
 use Rattle.capsule.specs.Grammar.{in_type, parts}
@@ -22,7 +21,7 @@ CapsuleReadBack =
 -- semantics for datagrams, under limits that allow it
 pub record Receives (t : Table) (streams limit q place : ℕ) : Type 0 where
   pub good : is_bad t ≡ false
-  pub found : find q t ≡ At place
+  pub found : find q t ≡ Some place
   pub opened : receive_open (get_or t place blank) ≡ true
   pub knows : has_semantics (get_or t place blank) ≡ true
   pub below : q < streams
@@ -34,12 +33,12 @@ FrameReadBack =
     (t : Table) (streams limit q place : ℕ) (payload : List ℕ)
     → Receives t streams limit q place
     → length payload ≤ limit
-    → (judged_of t streams limit (frame_bytes q payload) ≡ judged.Delivered (quarter q) place) × (payload_of t streams limit (frame_bytes q payload) ≡ payload)
+    → (judged_of t streams limit (frame_bytes q payload) ≡ Ok (judged.Delivered (quarter q) place)) × (payload_of t streams limit (frame_bytes q payload) ≡ payload)
 
 -- more than 64 records, whatever they hold, are refused 15
 abbrev pub TooManyRefused : Type 0
 TooManyRefused =
     (t : Table) → 64 < length t → (id : StreamId)
-    → ((streams limit : ℕ) (frame : List ℕ) → judged_of t streams limit frame ≡ judged.Refused bad_table)
+    → ((streams limit : ℕ) (frame : List ℕ) → judged_of t streams limit frame ≡ Err bad_table)
     × ((payload out : List ℕ) (place : ℕ) → write_capsule t id payload out place ≡ refuses bad_table out)
     × ((ours peers path : ℕ) (payload out : List ℕ) (place : ℕ) → write_frame t id ours peers path payload out place ≡ refuses bad_table out)

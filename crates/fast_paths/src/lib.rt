@@ -1,10 +1,8 @@
-// Fast paths of the commonest feedings: between two capsules, where a short header is at the front of the piece, and within a value.
-// Any other feeding, refused ones too, is left to the general path.
+// Fast paths of the commonest feedings: between two capsules, where a short header is at the front of the piece, and
+// within a value. Any other feeding, refused ones too, is left to the general path.
 #![tactic(auto)]
 
-ghost use Rattle.std.specs.Prelude.{◌≡◌, ◌+◌, ◌-◌, ◌≤◌, length, true};
-ghost use Rattle.planning.specs.declared.Header.TheVariants.{Short};
-ghost use Rattle.opening.specs.declared.Verdict.TheVariants.{Accepted};
+ghost use Rattle.std.specs.Prelude.{◌≡◌, ◌+◌, ◌-◌, ◌≤◌, length, true, Ok, Some};
 ghost use Rattle.opening.specs.Kinds.{kind_of, forwards, gathers};
 ghost use Rattle.capsule.specs.Calls.{lent};
 ghost use Rattle.capsule.specs.Reader.{fresh, verdict_of, stored, wrote};
@@ -14,13 +12,11 @@ ghost use Rattle.planning.specs.Headers.{short_header};
 ghost use Rattle.fast_paths.specs.FastPaths.{is_plain, whole_fed, whole_of, inside_fed, inside_of};
 
 use copying::copy_span;
-use opening::{Kind, Opening, Report, Verdict, lent_verdict};
+use opening::{Kind, Opening, Report, lent_verdict};
 use planning::{Header, is_makeable_value, short_header};
 
 #[derive(Clone, Copy)]
 pub enum Whole {
-    // nothing was changed
-    Not,
     Took {
         consumed: usize,
         written: usize,
@@ -37,8 +33,6 @@ pub enum Whole {
 
 #[derive(Clone, Copy)]
 pub enum Inside {
-    // nothing was changed
-    Not,
     // all of the piece was consumed
     Took {
         written: usize,
@@ -51,38 +45,33 @@ pub enum Inside {
     },
 }
 
-// A feeding between two capsules.
+// A feeding between two capsules. The three lent buffers are arguments of their own, as in C (`mrz_reader_feed`); a
+// struct of three `&mut` would be made for each call and taken apart in it.
 pub fn feed_whole(
     op: Opening,
     piece: &[u8],
     gathering: &mut [u8],
     addresses: &[u8],
     output: &mut [u8],
-) -> Whole
+) -> Option<Whole>
     ensures { whole_fed result (lent gathering.new addresses.now output.new) ≡ whole_of op piece.now (lent gathering.old addresses.now output.old) }
 {
     if op.limit > Opening::MAX_LIMIT {
-        return Whole::Not;
+        return None;
     }
-    let verdict = lent_verdict(
+    lent_verdict(
         op,
         piece.len(),
         gathering.len(),
         addresses.len(),
         output.len(),
-    );
-    match verdict {
-        Verdict::Refused(_) => Whole::Not,
-        Verdict::Accepted => match short_header(piece) {
-            Header::Long => Whole::Not,
-            Header::Short { at, ctype, size } => {
-                if !is_plain(op, ctype) {
-                    return Whole::Not;
-                }
-                take_whole(op, piece, at, ctype, size, gathering, addresses, output)
-            }
-        },
+    )
+    .ok()?;
+    let header = short_header(piece)?;
+    if !is_plain(op, header.ctype) {
+        return None;
     }
+    Some(take_whole(op, piece, header, gathering, addresses, output))
 }
 
 // A feeding within a value of which `left` bytes are to come.
@@ -95,37 +84,32 @@ pub fn feed_inside(
     gathering: &mut [u8],
     addresses: &[u8],
     output: &mut [u8],
-) -> Inside
+) -> Option<Inside>
     ensures { inside_fed result (lent gathering.new addresses.now output.new) ≡ inside_of op ctype size left piece.now (lent gathering.old addresses.now output.old) }
 {
     if op.limit > Opening::MAX_LIMIT {
-        return Inside::Not;
+        return None;
     }
     if !is_plain(op, ctype) {
-        return Inside::Not;
+        return None;
     }
     if !is_makeable_value(op, ctype, size, left) {
-        return Inside::Not;
+        return None;
     }
     let n = piece.len();
-    let verdict = lent_verdict(op, n, gathering.len(), addresses.len(), output.len());
-    match verdict {
-        Verdict::Refused(_) => Inside::Not,
-        Verdict::Accepted => {
-            let place = (size - left) as usize;
-            if left <= (n as u64) {
-                let end = left as usize;
-                let last = move_bytes(op, ctype, size, piece, 0, end, gathering, place, output);
-                return Inside::Ended {
-                    consumed: end,
-                    written: last,
-                    report: op.report(ctype, size),
-                };
-            }
-            let written = move_bytes(op, ctype, size, piece, 0, n, gathering, place, output);
-            Inside::Took { written: written }
-        }
+    lent_verdict(op, n, gathering.len(), addresses.len(), output.len()).ok()?;
+    let place = (size - left) as usize;
+    if left <= (n as u64) {
+        let end = left as usize;
+        let last = move_bytes(op, ctype, size, piece, 0, end, gathering, place, output);
+        return Some(Inside::Ended {
+            consumed: end,
+            written: last,
+            report: op.report(ctype, size),
+        });
     }
+    let written = move_bytes(op, ctype, size, piece, 0, n, gathering, place, output);
+    Some(Inside::Took { written })
 }
 
 // Whether this is no address capsule: those are left to the general way.
@@ -142,38 +126,39 @@ fn is_plain(op: Opening, ctype: u64) -> bool
 fn take_whole(
     op: Opening,
     piece: &[u8],
-    at: usize,
-    ctype: u64,
-    size: u64,
+    header: Header,
     gathering: &mut [u8],
     addresses: &[u8],
     output: &mut [u8],
 ) -> Whole
-    requires { (verdict_of (fresh op) (length piece.now) (length gathering.old) (length addresses.now) (length output.old) ≡ Accepted) × (short_header piece.now ≡ Short at ctype size) × (is_plain (kind_of op ctype) ≡ true) × (at ≤ length piece.now) }
-    ensures { whole_fed result (lent gathering.new addresses.now output.new) ≡ whole_of op piece.now (lent gathering.old addresses.now output.old) }
+    requires { (verdict_of (fresh op) (length piece.now) (length gathering.old) (length addresses.now) (length output.old) ≡ Ok tt) × (short_header piece.now ≡ Some header) × (is_plain (kind_of op header.ctype) ≡ true) × (header.at ≤ length piece.now) }
+    ensures { whole_fed (Some result) (lent gathering.new addresses.now output.new) ≡ whole_of op piece.now (lent gathering.old addresses.now output.old) }
 {
-    let room = (piece.len() - at) as u64;
+    let n = piece.len();
+    let ctype = header.ctype;
+    let size = header.size;
+    let room = (n - header.at) as u64;
     if size > room {
-        let n = piece.len();
-        let cut = move_bytes(op, ctype, size, piece, at, n, gathering, 0, output);
+        let cut = move_bytes(op, ctype, size, piece, header.at, n, gathering, 0, output);
         return Whole::Cut {
             written: cut,
-            ctype: ctype,
-            size: size,
+            ctype,
+            size,
             left: size - room,
         };
     }
-    let end = at + (size as usize);
-    let written = move_bytes(op, ctype, size, piece, at, end, gathering, 0, output);
+    let end = header.at + (size as usize);
+    let written = move_bytes(op, ctype, size, piece, header.at, end, gathering, 0, output);
     Whole::Took {
         consumed: end,
-        written: written,
+        written,
         report: op.report(ctype, size),
     }
 }
 
-// The bytes of a piece up to `end`: those from `at` on are the value's, from its byte `place` on. A capsule is gathered or
-// forwarded, never both, and each is tried by one branch. Answers how many bytes were forwarded.
+// The bytes of a piece up to `end`: those from `at` on are the value's, from its byte `place` on. A capsule is
+// gathered or forwarded, never both, and each is tried by one branch. Answers how many bytes were forwarded. Places,
+// not slices: what is forwarded starts at the piece's front, what is gathered at `at`.
 fn move_bytes(
     op: Opening,
     ctype: u64,

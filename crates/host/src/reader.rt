@@ -4,7 +4,8 @@ ghost use Rattle.capsule.specs.Calls.{lent};
 ghost use Rattle.capsule.specs.Reader.{feeding, feed_of, closing, close_of};
 ghost use Rattle.host.specs.Connections.{SameBeside};
 
-use capsule::reader::{CloseAnswer, FeedAnswer, Reader};
+use capsule::reader::{Advance, Ending, Reader};
+use refusals::Refusal;
 
 // Feeds the reader where it lies. A refusal changes nothing behind any reference (specs/Claims.antt).
 pub fn feed_in_place(
@@ -13,7 +14,7 @@ pub fn feed_in_place(
     gathering: &mut [u8],
     addresses: &mut [u8],
     output: &mut [u8],
-) -> FeedAnswer
+) -> Result<Advance, Refusal>
     ensures { feeding r.new result (lent gathering.new addresses.new output.new) ≡ feed_of r.old piece.now (lent gathering.old addresses.old output.old) }
 {
     let was = *r;
@@ -23,7 +24,7 @@ pub fn feed_in_place(
 }
 
 // The stream ends here, cleanly.
-pub fn close_in_place(r: &mut Reader) -> CloseAnswer
+pub fn close_in_place(r: &mut Reader) -> Result<Ending, Refusal>
     ensures { closing r.new result ≡ close_of r.old }
 {
     let closed = (*r).close();
@@ -46,14 +47,14 @@ pub fn feed_connection(
     gathering: &mut [u8],
     addresses: &mut [u8],
     output: &mut [u8],
-) -> FeedAnswer
+) -> Result<Advance, Refusal>
     ensures { (feeding c.new.reader result (lent gathering.new addresses.new output.new) ≡ feed_of c.old.reader piece.now (lent gathering.old addresses.old output.old))
         × SameBeside c.old c.new }
 {
     feed_in_place(&mut c.reader, piece, gathering, addresses, output)
 }
 
-pub fn close_connection(c: &mut Connection) -> CloseAnswer
+pub fn close_connection(c: &mut Connection) -> Result<Ending, Refusal>
     ensures { (closing c.new.reader result ≡ close_of c.old.reader) × SameBeside c.old c.new }
 {
     close_in_place(&mut c.reader)

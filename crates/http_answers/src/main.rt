@@ -8,37 +8,35 @@ use http_messages::messages::Message;
 use printing::{message, setting, translation, value};
 use std::io;
 
-fn row(rt: &impl Print, error: HttpError) -> io::Result<()> {
-    translation(rt, error.0, 1)?;
-    translation(rt, error.0, 2)?;
-    translation(rt, error.0, 3)
-}
-
 fn table(rt: &impl Print) -> io::Result<()> {
-    row(rt, HttpError::TRUNCATED)?;
-    row(rt, HttpError::NO_SEMANTICS)?;
-    row(rt, HttpError::SHORT_FRAME)?;
-    row(rt, HttpError::QUARTER_TOO_LARGE)?;
-    row(rt, HttpError::BEYOND_LIMIT)?;
-    row(rt, HttpError::BAD_SETTING)?;
-    row(rt, HttpError::MALFORMED)
+    for error in [
+        HttpError::TRUNCATED,
+        HttpError::NO_SEMANTICS,
+        HttpError::SHORT_FRAME,
+        HttpError::QUARTER_TOO_LARGE,
+        HttpError::BEYOND_LIMIT,
+        HttpError::BAD_SETTING,
+        HttpError::MALFORMED,
+    ] {
+        for version in 1..=3 {
+            translation(rt, error.0, version)?;
+        }
+    }
+    Ok(())
 }
 
 fn unknown(rt: &impl Print) -> io::Result<()> {
-    translation(rt, 0, 3)?;
-    translation(rt, 8, 3)?;
-    translation(rt, u64::MAX, 3)?;
-    translation(rt, 1, 0)?;
-    translation(rt, 1, 4)
+    for (error, version) in [(0, 3), (8, 3), (u64::MAX, 3), (1, 0), (1, 4)] {
+        translation(rt, error, version)?;
+    }
+    Ok(())
 }
 
 fn settings(rt: &impl Print) -> io::Result<()> {
-    setting(rt, 0, 0)?;
-    setting(rt, 1, 1)?;
-    setting(rt, 1, 0)?;
-    setting(rt, 0, 1)?;
-    setting(rt, 2, 0)?;
-    setting(rt, 1, 2)
+    for (value, stored) in [(0, 0), (1, 1), (1, 0), (0, 1), (2, 0), (1, 2)] {
+        setting(rt, value, stored)?;
+    }
+    Ok(())
 }
 
 fn requests(rt: &impl Print) -> io::Result<()> {
@@ -48,34 +46,18 @@ fn requests(rt: &impl Print) -> io::Result<()> {
     message(rt, Message::Request, false, false, true)
 }
 
-fn response(rt: &impl Print, status: u16) -> io::Result<()> {
-    message(
-        rt,
-        Message::Response { status: status },
-        false,
-        false,
-        false,
-    )
-}
-
 fn responses(rt: &impl Print) -> io::Result<()> {
-    response(rt, 0)?;
-    response(rt, 101)?;
-    response(rt, 199)?;
-    response(rt, 200)?;
-    response(rt, 203)?;
-    response(rt, 204)?;
-    response(rt, 205)?;
-    response(rt, 206)?;
-    response(rt, 207)?;
-    response(rt, 299)?;
-    response(rt, 300)
+    for status in [0, 101, 199, 200, 203, 204, 205, 206, 207, 299, 300] {
+        message(rt, Message::Response { status }, false, false, false)?;
+    }
+    Ok(())
 }
 
 fn responses_with_fields(rt: &impl Print) -> io::Result<()> {
-    message(rt, Message::Response { status: 200 }, true, false, false)?;
-    message(rt, Message::Response { status: 200 }, false, true, false)?;
-    message(rt, Message::Response { status: 200 }, false, false, true)
+    let response = Message::Response { status: 200 };
+    message(rt, response, true, false, false)?;
+    message(rt, response, false, true, false)?;
+    message(rt, response, false, false, true)
 }
 
 fn values_in_use(rt: &impl Print) -> io::Result<()> {

@@ -1,94 +1,80 @@
 // A line on standard output for each question and its answer.
-use capsule_protocol::field::{FieldValue, read_field};
+use capsule_protocol::field::read_field;
 use http_errors::translation;
-use http_errors::translation::{Action, ErrorCode, Translation};
-use http_messages::errors::ErrorOf;
+use http_errors::translation::{Action, ErrorCode};
 use http_messages::messages::Message;
-use http_messages::settings::Setting;
+use http_messages::settings::{BadSetting, setting_error};
 use http_messages::{messages, settings};
-use show::{hex, number, word};
-use std::io;
+use show::Hex;
+use std::{fmt, io};
 
-fn flag(rt: &impl Print, b: bool) -> io::Result<()> {
-    if b { word(rt, b"1") } else { word(rt, b"0") }
-}
+#[derive(Clone, Copy)]
+struct Flag(bool);
 
-// Two digits, or four from 0x0100 on.
-fn code(rt: &impl Print, c: ErrorCode) -> io::Result<()> {
-    word(rt, b"0x")?;
-    let n = c.0;
-    if n < 256 {
-        print!(rt; "{n:02x}")
-    } else {
-        print!(rt; "{n:04x}")
+impl fmt::Display for Flag {
+    fn fmt<W: fmt::Write>(&self, f: &mut fmt::Formatter<W>) -> fmt::Result {
+        write!(f, "{}", u8::from(self.0))
     }
 }
 
-fn action(rt: &impl Print, a: Action) -> io::Result<()> {
-    match a {
-        Action::None => word(rt, b"none"),
-        Action::Close(c) => {
-            word(rt, b"close ")?;
-            number(rt, c.0)
+// Two digits, or four from 0x0100 on.
+#[derive(Clone, Copy)]
+struct Code(ErrorCode);
+
+impl fmt::Display for Code {
+    fn fmt<W: fmt::Write>(&self, f: &mut fmt::Formatter<W>) -> fmt::Result {
+        match self.0.0 {
+            n @ ..256 => write!(f, "0x{n:02x}"),
+            n => write!(f, "0x{n:04x}"),
         }
-        Action::StreamError(c) => {
-            word(rt, b"stream ")?;
-            code(rt, c)
+    }
+}
+
+#[derive(Clone, Copy)]
+struct Shown(Action);
+
+impl fmt::Display for Shown {
+    fn fmt<W: fmt::Write>(&self, f: &mut fmt::Formatter<W>) -> fmt::Result {
+        match self.0 {
+            Action::Close(c) => write!(f, "close {}", c.0),
+            Action::StreamError(c) => write!(f, "stream {}", Code(c)),
+            Action::ConnectionError(c) => write!(f, "connection {}", Code(c)),
         }
-        Action::ConnectionError(c) => {
-            word(rt, b"connection ")?;
-            code(rt, c)
+    }
+}
+
+#[derive(Clone, Copy)]
+struct Name(Message);
+
+impl fmt::Display for Name {
+    fn fmt<W: fmt::Write>(&self, f: &mut fmt::Formatter<W>) -> fmt::Result {
+        match self.0 {
+            Message::Request => f.write_str("request"),
+            Message::Response { status } => write!(f, "response {status}"),
         }
     }
 }
 
 pub(crate) fn translation(rt: &impl Print, error: u64, version: u64) -> io::Result<()> {
-    word(rt, b"error ")?;
-    number(rt, error)?;
-    word(rt, b", version ")?;
-    number(rt, version)?;
-    word(rt, b": ")?;
+    print!(rt; "error {error}, version {version}: ")?;
     match translation::translate(error, version) {
-        Translation::Refused(r) => {
-            word(rt, b"refused ")?;
-            number(rt, r.0 as u64)?;
-        }
-        Translation::Becomes(a) => action(rt, a)?,
+        Err(r) => println!(rt; "refused {}", r.0),
+        Ok(None) => println!(rt; "none"),
+        Ok(Some(action)) => println!(rt; "{}", Shown(action)),
     }
-    word(rt, b"\n")
 }
 
 pub(crate) fn setting(rt: &impl Print, value: u64, stored: u64) -> io::Result<()> {
-    word(rt, b"setting ")?;
-    number(rt, value)?;
-    word(rt, b", stored ")?;
-    number(rt, stored)?;
+    print!(rt; "setting {value}, stored {stored}: ")?;
     let answer = settings::received(value, stored);
     match answer {
-        Setting::Accepted { value: v } => {
-            word(rt, b": accepted ")?;
-            number(rt, v)?;
-        }
-        Setting::Bad => word(rt, b": bad")?,
+        Ok(value) => print!(rt; "accepted {value}")?,
+        Err(BadSetting) => print!(rt; "bad")?,
     }
-    match answer.error() {
-        ErrorOf::NoError => {}
-        ErrorOf::Is(e) => {
-            word(rt, b", error ")?;
-            number(rt, e.0)?;
-        }
+    if let Some(error) = setting_error(answer) {
+        print!(rt; ", error {}", error.0)?;
     }
-    word(rt, b"\n")
-}
-
-fn name(rt: &impl Print, m: Message) -> io::Result<()> {
-    match m {
-        Message::Request => word(rt, b"request"),
-        Message::Response { status } => {
-            word(rt, b"response ")?;
-            number(rt, status as u64)
-        }
-    }
+    println!(rt)
 }
 
 fn malformed(
@@ -115,29 +101,20 @@ pub(crate) fn message(
     content_type: bool,
     transfer_encoding: bool,
 ) -> io::Result<()> {
-    name(rt, m)?;
-    word(rt, b", fields ")?;
-    flag(rt, content_length)?;
-    flag(rt, content_type)?;
-    flag(rt, transfer_encoding)?;
-    word(rt, b": malformed ")?;
-    let bad = malformed(m, content_length, content_type, transfer_encoding);
-    flag(rt, bad)?;
-    word(rt, b", field counts ")?;
-    flag(rt, m.field_counts())?;
-    word(rt, b"\n")
+    let length = Flag(content_length);
+    let ctype = Flag(content_type);
+    let encoding = Flag(transfer_encoding);
+    let bad = Flag(malformed(m, content_length, content_type, transfer_encoding));
+    let counts = Flag(m.field_counts());
+    print!(rt; "{}, fields {length}{ctype}{encoding}", Name(m))?;
+    println!(rt; ": malformed {bad}, field counts {counts}")
 }
 
 pub(crate) fn value(rt: &impl Print, bytes: &[u8]) -> io::Result<()> {
-    word(rt, b"value ")?;
-    hex(rt, bytes)?;
+    print!(rt; "value {}: ", Hex(bytes))?;
     match read_field(bytes) {
-        FieldValue::InUse => word(rt, b": in use\n"),
-        FieldValue::Absent => word(rt, b": absent\n"),
-        FieldValue::Refused(why) => {
-            word(rt, b": refused ")?;
-            number(rt, why.0 as u64)?;
-            word(rt, b"\n")
-        }
+        Ok(true) => println!(rt; "in use"),
+        Ok(false) => println!(rt; "absent"),
+        Err(why) => println!(rt; "refused {}", why.0),
     }
 }

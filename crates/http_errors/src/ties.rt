@@ -2,73 +2,44 @@
 ghost use Rattle.std.specs.Prelude.{◌≡◌};
 ghost use Rattle.http_errors.specs.Ties.{close_error, report_error, judged_error};
 
-use capsule::reader::CloseAnswer;
-use http_messages::errors::{ErrorOf, HttpError};
+use capsule::reader::Ending;
+use http_messages::errors::HttpError;
 use judging::judge::Judged;
 use opening::Report;
+use refusals::Refusal;
 
 // A clean close that finds a capsule unfinished is error 1.
-pub fn close_error(answer: CloseAnswer) -> ErrorOf
+#[tactic(auto, unfolding(crate::specs::Ties::close_error, http_messages::specs::Errors::number))]
+pub fn close_error(answer: Result<Ending, Refusal>) -> Option<HttpError>
     ensures { result ≡ close_error answer }
 {
     match answer {
-        CloseAnswer::Refused(_) => ErrorOf::NoError,
-        CloseAnswer::Clean => ErrorOf::NoError,
-        CloseAnswer::Truncated => ErrorOf::Is(HttpError::TRUNCATED),
+        Ok(Ending::Truncated) => Some(HttpError::TRUNCATED),
+        _ => None,
     }
 }
 
 // A malformed capsule is error 7.
-pub fn report_error(report: Report) -> ErrorOf
+#[tactic(auto, unfolding(crate::specs::Ties::report_error, http_messages::specs::Errors::number))]
+pub fn report_error(report: Report) -> Option<HttpError>
     ensures { result ≡ report_error report }
 {
     match report {
-        Report::Delivered { length: _ } => ErrorOf::NoError,
-        Report::Dropped { length: _ } => ErrorOf::NoError,
-        Report::Skipped {
-            ctype: _,
-            length: _,
-        } => ErrorOf::NoError,
-        Report::Passed {
-            ctype: _,
-            length: _,
-        } => ErrorOf::NoError,
-        Report::AddressDelivered {
-            ctype: _,
-            length: _,
-        } => ErrorOf::NoError,
-        Report::Malformed {
-            ctype: _,
-            length: _,
-        } => ErrorOf::Is(HttpError::MALFORMED),
+        Report::Malformed { .. } => Some(HttpError::MALFORMED),
+        _ => None,
     }
 }
 
 // Rule 6 is error 2; rules 1, 2 and 3 are errors 3, 4 and 5.
-pub fn judged_error(answer: Judged) -> ErrorOf
+#[tactic(auto, unfolding(crate::specs::Ties::judged_error, http_messages::specs::Errors::number))]
+pub fn judged_error(answer: Result<Judged, Refusal>) -> Option<HttpError>
     ensures { result ≡ judged_error answer }
 {
     match answer {
-        Judged::Refused(_) => ErrorOf::NoError,
-        Judged::ShortFrame => ErrorOf::Is(HttpError::SHORT_FRAME),
-        Judged::QuarterTooLarge { quarter: _ } => ErrorOf::Is(HttpError::QUARTER_TOO_LARGE),
-        Judged::BeyondLimit { quarter: _ } => ErrorOf::Is(HttpError::BEYOND_LIMIT),
-        Judged::NoStream { quarter: _ } => ErrorOf::NoError,
-        Judged::ReceiveClosed {
-            quarter: _,
-            place: _,
-        } => ErrorOf::NoError,
-        Judged::NoSemantics {
-            quarter: _,
-            place: _,
-        } => ErrorOf::Is(HttpError::NO_SEMANTICS),
-        Judged::TooLong {
-            quarter: _,
-            place: _,
-        } => ErrorOf::NoError,
-        Judged::Delivered {
-            quarter: _,
-            place: _,
-        } => ErrorOf::NoError,
+        Ok(Judged::NoSemantics { .. }) => Some(HttpError::NO_SEMANTICS),
+        Ok(Judged::ShortFrame) => Some(HttpError::SHORT_FRAME),
+        Ok(Judged::QuarterTooLarge { .. }) => Some(HttpError::QUARTER_TOO_LARGE),
+        Ok(Judged::BeyondLimit { .. }) => Some(HttpError::BEYOND_LIMIT),
+        _ => None,
     }
 }

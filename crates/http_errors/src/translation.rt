@@ -4,8 +4,9 @@ ghost use Rattle.http_errors.specs.Translation.{row_of, translated};
 
 use refusals::Refusal;
 
-// A code of HTTP/2 (RFC 9113, section 7) or HTTP/3 (RFC 9114, section 8.1; RFC 9297, section 5.2).
-#[derive(Clone, Copy)]
+// A code of HTTP/2 (RFC 9113, section 7) or HTTP/3 (RFC 9114, section 8.1; RFC 9297, section 5.2). It is the number
+// that stands on the wire, and its constants are a form that the project's scope names (docs/PROMISES.md).
+#[derive(Clone, Copy, Debug, PartialEq, Eq)]
 pub struct ErrorCode(pub u64);
 
 impl ErrorCode {
@@ -23,58 +24,52 @@ impl ErrorCode {
     pub const H3_MESSAGE_ERROR: ErrorCode = ErrorCode(0x010e);
 }
 
-#[derive(Clone, Copy)]
+// What an error becomes where it arises.
+#[derive(Clone, Copy, Debug, PartialEq, Eq)]
 pub enum Action {
-    // The error does not arise on this version.
-    None,
     // The connection is closed, with no error code on the wire.
     Close(ErrorCode),
     StreamError(ErrorCode),
     ConnectionError(ErrorCode),
 }
 
-#[derive(Clone, Copy)]
-pub enum Translation {
-    Refused(Refusal),
-    Becomes(Action),
-}
-
-// A row for each error, 1 to 6, and 7 has that of 1; a column for each HTTP version: 1.1, 2, 3.
-const ROWS: [[Action; 3]; 6] = [
+// None: the error does not arise on this version. A row for each error, 1 to 6, and 7 has that of 1; a column for each
+// HTTP version: 1.1, 2, 3.
+const ROWS: [[Option<Action>; 3]; 6] = [
     [
-        Action::Close(ErrorCode::NO_CODE),
-        Action::StreamError(ErrorCode::PROTOCOL_ERROR),
-        Action::StreamError(ErrorCode::H3_MESSAGE_ERROR),
+        Some(Action::Close(ErrorCode::NO_CODE)),
+        Some(Action::StreamError(ErrorCode::PROTOCOL_ERROR)),
+        Some(Action::StreamError(ErrorCode::H3_MESSAGE_ERROR)),
     ],
     [
-        Action::Close(ErrorCode::NO_CODE),
-        Action::StreamError(ErrorCode::PROTOCOL_ERROR),
-        Action::StreamError(ErrorCode::H3_DATAGRAM_ERROR),
+        Some(Action::Close(ErrorCode::NO_CODE)),
+        Some(Action::StreamError(ErrorCode::PROTOCOL_ERROR)),
+        Some(Action::StreamError(ErrorCode::H3_DATAGRAM_ERROR)),
     ],
     [
-        Action::None,
-        Action::None,
-        Action::ConnectionError(ErrorCode::H3_DATAGRAM_ERROR),
+        None,
+        None,
+        Some(Action::ConnectionError(ErrorCode::H3_DATAGRAM_ERROR)),
     ],
     [
-        Action::None,
-        Action::None,
-        Action::ConnectionError(ErrorCode::H3_DATAGRAM_ERROR),
+        None,
+        None,
+        Some(Action::ConnectionError(ErrorCode::H3_DATAGRAM_ERROR)),
     ],
     [
-        Action::None,
-        Action::None,
-        Action::ConnectionError(ErrorCode::H3_ID_ERROR),
+        None,
+        None,
+        Some(Action::ConnectionError(ErrorCode::H3_ID_ERROR)),
     ],
     [
-        Action::None,
-        Action::None,
-        Action::ConnectionError(ErrorCode::H3_SETTINGS_ERROR),
+        None,
+        None,
+        Some(Action::ConnectionError(ErrorCode::H3_SETTINGS_ERROR)),
     ],
 ];
 
 // An error and an HTTP version by their numbers in documents 01 and 02: version 1 is HTTP/1.1.
-pub fn translate(error: u64, version: u64) -> Translation
+pub fn translate(error: u64, version: u64) -> Result<Option<Action>, Refusal>
     ensures { result ≡ translated error version }
 {
     match error {
@@ -82,11 +77,11 @@ pub fn translate(error: u64, version: u64) -> Translation
             1..=3 => {
                 let row = ROWS[row_of(error) as usize];
                 let entry = row[(version - 1) as usize];
-                Translation::Becomes(entry)
+                Ok(entry)
             }
-            _ => Translation::Refused(Refusal::UNKNOWN_ERROR_OR_VERSION),
+            _ => Err(Refusal::UNKNOWN_ERROR_OR_VERSION),
         },
-        _ => Translation::Refused(Refusal::UNKNOWN_ERROR_OR_VERSION),
+        _ => Err(Refusal::UNKNOWN_ERROR_OR_VERSION),
     }
 }
 

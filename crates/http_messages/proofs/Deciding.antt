@@ -1,6 +1,8 @@
 -- Settings and messages, decided at every number. Assumes nothing.
+use Rattle.std.specs.Prelude.{Option, Some, None, Ok, Err}
+use Rattle.http_messages.specs.Settings.{bad_value}
 use Rattle.walks.proofs.Words.{◌≡◌, refl, ap, ◌↔◌, ◌⊎◌, inl, inr, ⊎_elim, iff_trans, iff_and, iff_rfl, Bool, true, false, cond, ◌||◌, ◌&&◌, ℕ, ◌≤◌, ◌<◌, leb, ltb, eqb, leb-true, le-leb, ltb-true, ltb-false, lt-ltb, le-ltb, eqb-true, eq-eqb}
-use Rattle.http_messages.proofs.Terms.{both, parted, zero_one, HttpError, NoError, Is, Accepted, Bad, SettingExactly, RequestMalformedExactly, ResponseMalformedExactly, FieldCountsExactly, SettingErrorExactly, number, request_malformed, response_malformed, field_counts, received_setting, setting_error}
+use Rattle.http_messages.proofs.Terms.{both, parted, zero_one, HttpError, SettingExactly, RequestMalformedExactly, ResponseMalformedExactly, FieldCountsExactly, SettingErrorExactly, number, request_malformed, response_malformed, field_counts, received_setting, setting_error}
 
 -- ---- tests joined
 
@@ -43,11 +45,11 @@ field_counts_exactly = (refl, λ status. either _ _ (is_number status 101) (betw
 -- ---- settings
 
 -- by the test that makes a setting bad
-accepted : (t : Bool) (value n : ℕ) → (cond t Bad (Accepted value) ≡ Accepted n) ↔ (n ≡ value) × (t ≡ false)
+accepted : (t : Bool) (value n : ℕ) → (cond t (Err bad_value) (Ok value) ≡ Ok n) ↔ (n ≡ value) × (t ≡ false)
 accepted true value n = (λ e. zero_one (cc), λ p. zero_one (cc))
 accepted false value n = (λ e. (cc, refl), λ p. rw p.0)
 
-bad : (t : Bool) (value : ℕ) → (cond t Bad (Accepted value) ≡ Bad) ↔ (t ≡ true)
+bad : (t : Bool) (value : ℕ) → (cond t (Err bad_value) (Ok value) ≡ Err bad_value) ↔ (t ≡ true)
 bad true value = (λ e. refl, λ e. refl)
 bad false value = (λ e. zero_one (cc), λ e. zero_one (cc))
 
@@ -57,7 +59,7 @@ above_or_below value stored = either _ _ (ltb-true 1 value, lt-ltb 1 value) (ltb
 within : (value stored : ℕ) → (ltb 1 value || ltb value stored ≡ false) ↔ (value ≤ 1) × (stored ≤ value)
 within value stored = iff_trans (neither _ _) (iff_and (ltb-false 1 value, le-ltb 1 value) (ltb-false value stored, le-ltb value stored))
 
-bad_exactly : (value stored : ℕ) → (received_setting value stored ≡ Bad) ↔ (1 < value) ⊎ (value < stored)
+bad_exactly : (value stored : ℕ) → (received_setting value stored ≡ Err bad_value) ↔ (1 < value) ⊎ (value < stored)
 unfolding received_setting
 bad_exactly value stored = iff_trans (bad _ value) (above_or_below value stored)
 
@@ -65,7 +67,7 @@ pub setting_exactly : SettingExactly
 unfolding received_setting
 setting_exactly value stored = (λ n. (only n, λ p. (accepted _ value n).1 (p.0, (within value stored).1 (p.1, p.2))), bad_exactly value stored)
   where
-    only : (n : ℕ) → received_setting value stored ≡ Accepted n → (n ≡ value) × (value ≤ 1) × (stored ≤ value)
+    only : (n : ℕ) → received_setting value stored ≡ Ok n → (n ≡ value) × (value ≤ 1) × (stored ≤ value)
     only n e =
         let p = (accepted _ value n).0 e in
         let w = (within value stored).0 p.1 in
@@ -73,13 +75,13 @@ setting_exactly value stored = (λ n. (only n, λ p. (accepted _ value n).1 (p.0
 
 -- ---- errors
 
-pub no_error {ℓ} : {X : Type ℓ} {e : ℕ} → NoError ≡ Is (record { 0 = e }) → X
+pub no_error {ℓ} : {X : Type ℓ} {e : ℕ} → ◌≡◌ {A = Option HttpError} None (Some (record { 0 = e })) → X
 no_error h = zero_one (cc)
 
-pub is_error : (k e : ℕ) → (Is (record { 0 = k }) ≡ Is (record { 0 = e })) ↔ (e ≡ k)
+pub is_error : (k e : ℕ) → (◌≡◌ {A = Option HttpError} (Some (record { 0 = k })) (Some (record { 0 = e }))) ↔ (e ≡ k)
 is_error k e = (λ h. let r : ◌≡◌ {A = HttpError} (record { 0 = e }) (record { 0 = k }) = cc in ap (λ (x : HttpError). x.0) r, λ h. rw h)
 
 pub setting_error_exactly : SettingErrorExactly
 unfolding setting_error number
-setting_error_exactly (Accepted n) e = (no_error, λ p. zero_one (cc))
-setting_error_exactly Bad e = (λ h. ((is_error 6 e).0 h, refl), λ p. (is_error 6 e).1 p.0)
+setting_error_exactly (Ok n) e = (no_error, λ p. zero_one (cc))
+setting_error_exactly (Err b) e = (λ h. ((is_error 6 e).0 h, refl), λ p. (is_error 6 e).1 p.0)

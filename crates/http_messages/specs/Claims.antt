@@ -1,10 +1,9 @@
 -- What holds of the definitions, at every number and status. Each claim is a type here, and is proved in the file given under its
 -- name in lower case with dashes.
-use Rattle.std.specs.Prelude.{◌≡◌, ◌↔◌, ◌⊎◌, ℕ, ◌≤◌, ◌<◌, Bool, true}
-use Rattle.http_messages.specs.declared.errors.ErrorOf.TheVariants.{Is}
+use Rattle.http_messages.specs.declared.settings.BadSetting.{BadSetting}
+use Rattle.http_messages.specs.Settings.{bad_value}
+use Rattle.std.specs.Prelude.{◌≡◌, ◌↔◌, ◌⊎◌, ℕ, ◌≤◌, ◌<◌, Bool, true, Some, Result, Ok, Err}
 use Rattle.http_messages.specs.declared.messages.Message.TheVariants.{Request, Response}
-use Rattle.http_messages.specs.declared.settings.Setting.{Setting}
-use Rattle.http_messages.specs.declared.settings.Setting.TheVariants.{Accepted, Bad}
 use Rattle.http_messages.specs.Messages.{request_malformed, response_malformed, field_counts}
 use Rattle.http_messages.specs.Settings.{received_setting, setting_error}
 
@@ -14,12 +13,12 @@ use Rattle.http_messages.specs.Settings.{received_setting, setting_error}
 abbrev pub SettingExactly : Type 0
 SettingExactly =
     (value stored : ℕ)
-    → ((n : ℕ) → (received_setting value stored ≡ Accepted n) ↔ (n ≡ value) × (value ≤ 1) × (stored ≤ value))
-    × ((received_setting value stored ≡ Bad) ↔ (1 < value) ⊎ (value < stored))
+    → ((n : ℕ) → (received_setting value stored ≡ Ok n) ↔ (n ≡ value) × (value ≤ 1) × (stored ≤ value))
+    × ((received_setting value stored ≡ Err bad_value) ↔ (1 < value) ⊎ (value < stored))
 
 -- a bad one is error 6
 abbrev pub SettingErrorExactly : Type 0
-SettingErrorExactly = (s : Setting) (e : ℕ) → (setting_error s ≡ Is (record { 0 = e })) ↔ (e ≡ 6) × (s ≡ Bad)
+SettingErrorExactly = (s : Result ℕ BadSetting) (e : ℕ) → (setting_error s ≡ Some (record { 0 = e })) ↔ (e ≡ 6) × (s ≡ Err bad_value)
 
 -- ---- messages (proofs/Deciding.antt)
 

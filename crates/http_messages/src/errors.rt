@@ -1,4 +1,5 @@
-// The errors of documents 01 and 02, by their numbers. An error's number is any u64: whether it is known is asked where it is translated.
+// The errors of documents 01 and 02, by their numbers. An enum could not hold an error that is not known: that is any
+// u64, and translating it is refused.
 #[derive(Clone, Copy)]
 pub struct HttpError(pub u64);
 
@@ -16,11 +17,4 @@ impl HttpError {
     pub const BAD_SETTING: HttpError = HttpError(6);
 
     pub const MALFORMED: HttpError = HttpError(7);
-}
-
-// Which error an answer is, if any.
-#[derive(Clone, Copy)]
-pub enum ErrorOf {
-    NoError,
-    Is(HttpError),
 }

@@ -2,6 +2,7 @@
 ghost use Rattle.std.specs.Prelude.{◌≡◌};
 ghost use Rattle.http_messages.specs.Messages.{field_counts, request_malformed, response_malformed, status_malformed};
 
+// No Option of a status: a request lacks none.
 #[derive(Clone, Copy)]
 pub enum Message {
     Request,

@@ -2,36 +2,30 @@
 ghost use Rattle.std.specs.Prelude.{◌≡◌};
 ghost use Rattle.http_messages.specs.Settings.{received_setting, setting_error};
 
-use crate::errors::{ErrorOf, HttpError};
+use crate::errors::HttpError;
 
-#[derive(Clone, Copy)]
-pub enum Setting {
-    // 0 or 1
-    Accepted { value: u64 },
-    Bad,
-}
+// A value that no peer may send.
+#[derive(Clone, Copy, Debug, PartialEq, Eq)]
+pub struct BadSetting;
 
 // A value that was received, where `stored` is the value stored for 0-RTT, 0 where none is.
-pub fn received(value: u64, stored: u64) -> Setting
+#[tactic(auto, unfolding(crate::specs::Settings::received_setting))]
+pub fn received(value: u64, stored: u64) -> Result<u64, BadSetting>
     ensures { result ≡ received_setting value stored }
 {
-    if value > 1 {
-        return Setting::Bad;
+    if value > 1 || value < stored {
+        return Err(BadSetting);
     }
-    if value < stored {
-        return Setting::Bad;
-    }
-    Setting::Accepted { value: value }
+    Ok(value)
 }
 
-impl Setting {
-    // A bad setting is error 6.
-    pub fn error(self) -> ErrorOf
-        ensures { result ≡ setting_error self }
-    {
-        match self {
-            Setting::Accepted { value: _ } => ErrorOf::NoError,
-            Setting::Bad => ErrorOf::Is(HttpError::BAD_SETTING),
-        }
+// The error of a bad setting, which is error 6.
+#[tactic(auto, unfolding(crate::specs::Settings::setting_error, crate::specs::Errors::number))]
+pub fn setting_error(setting: Result<u64, BadSetting>) -> Option<HttpError>
+    ensures { result ≡ setting_error setting }
+{
+    match setting {
+        Ok(_) => None,
+        Err(BadSetting) => Some(HttpError::BAD_SETTING),
     }
 }

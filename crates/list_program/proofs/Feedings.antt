@@ -1,14 +1,16 @@
 -- What was read, listed feeding by feeding. Assumes nothing.
+use Rattle.std.specs.Prelude.{Option, Result, Ok, Err}
+use Rattle.opening.specs.declared.Report.{Report}
+use Rattle.capsule.specs.declared.reader.Advance.{Advance}
+use Rattle.capsule.specs.Reader.{taking}
 use Rattle.walks.proofs.Words.{◌≡◌, refl, sym, ap, ◌∙◌, ℕ, ◌+◌, ◌-◌, ◌≤◌, ◌<◌, arith, Bool, true, false, List, [], ◌++◌, length, take, drop, length-append, length-drop, sets, length-sets, length-take-le}
-use Rattle.list_program.proofs.Terms.{Refusal, Reader, Ended, FeedAnswer, Verdict, Accepted, Refused, Bytes, is_partial, starts, bytes_take, bytes_drop, opted_by, opted, Lent, Endpoint, opening, fresh, is_opening, open_of, is_makeable, verdict_of, Feeding, feeding, fed_by, take_of, feed_of, is_makeable_phase, plan_of, zero_one, plan-fits, Accepts, accepts, accepted_makeable, after-close, by_lengths, feed_taken, endpoint_off, stays_makeable, progress, as_before, longest, sets_then, Progress, progress_of, line_in, Noted, Lists, none, took, Ready, Read, Within, Listed}
-use Rattle.capsule.specs.declared.reader.FeedAnswer.TheVariants as fed_as
-use Rattle.capsule.specs.declared.reader.Opened.TheVariants as opened
+use Rattle.list_program.proofs.Terms.{Refusal, Reader, Bytes, is_partial, starts, bytes_take, bytes_drop, opted_by, opted, Lent, Endpoint, opening, fresh, is_opening, open_of, is_makeable, verdict_of, Feeding, feeding, fed_by, take_of, feed_of, is_makeable_phase, plan_of, zero_one, ok_same, plan-fits, Accepts, accepts, accepted_makeable, after-close, by_lengths, feed_taken, endpoint_off, stays_makeable, progress, as_before, longest, sets_then, Progress, progress_of, line_in, Noted, Lists, none, took, Ready, Read, Within, Listed}
 use Rattle.capsule_laws.specs.Before as before
 
 -- ---- a reader that refuses no piece
 
 -- what was accepted is not finished
-not_finished : (r : Reader) (piece gathering addresses output : ℕ) → verdict_of r piece gathering addresses output ≡ Accepted → r.finished ≡ false
+not_finished : (r : Reader) (piece gathering addresses output : ℕ) → verdict_of r piece gathering addresses output ≡ (Ok tt) → r.finished ≡ false
 not_finished r piece gathering addresses output e = go r.finished refl
   where
     go : (f : Bool) → r.finished ≡ f → r.finished ≡ false
@@ -21,19 +23,19 @@ unfolding before.feed_of
 stays_open r p b e h =
     ap (λ (f : Feeding). f.reader.finished) (as_before r p b e) ∙ go (before.verdict_of r (length p) (length b.gathering) (length b.output))
   where
-    go : (v : Verdict) → (before.feed_by r p b.gathering b.output v).reader.finished ≡ false
-    go (Refused why) = unfold before.feed_by in h
-    go Accepted = unfold before.feed_by before.take_of before.fed_by in refl
+    go : (v : (Result (Unit {0}) Refusal)) → (before.feed_by r p b.gathering b.output v).reader.finished ≡ false
+    go (Err why) = unfold before.feed_by in h
+    go (Ok tt) = unfold before.feed_by before.take_of before.fed_by in refl
 
 ready_by : (r : Reader) (gathering addresses output : ℕ) → r.opening ≡ opening Endpoint 1200 false false → 1200 ≤ gathering → is_makeable r ≡ true → r.finished ≡ false
     → Ready r gathering addresses output
 ready_by r gathering addresses output e h m f = record {
-  accepts = λ piece. sym (by_lengths r piece gathering addresses output m f Accepted (rw e (endpoint_off (opening Endpoint 1200 false false) piece gathering addresses output h refl refl)));
+  accepts = λ piece. sym (by_lengths r piece gathering addresses output m f (Ok tt) (rw e (endpoint_off (opening Endpoint 1200 false false) piece gathering addresses output h refl refl)));
   opened = e;
 }
 
 -- the reader that was opened
-pub opened_ready : (r : Reader) (gathering addresses output : ℕ) → 1200 ≤ gathering → open_of Endpoint 1200 false false ≡ opened.Ready r → Ready r gathering addresses output
+pub opened_ready : (r : Reader) (gathering addresses output : ℕ) → 1200 ≤ gathering → open_of Endpoint 1200 false false ≡ Ok r → Ready r gathering addresses output
 unfolding open_of is_opening
 opened_ready r gathering addresses output h e =
     let is_r : fresh (opening Endpoint 1200 false false) ≡ r = cc in
@@ -46,15 +48,15 @@ module _ (r : Reader) (p : List ℕ) (b : Lent) (h : Ready r (length b.gathering
   accepted : Accepts r (length p) (length b.gathering) (length b.addresses) (length b.output)
   accepted = accepts r (length p) (length b.gathering) (length b.addresses) (length b.output) (h.accepts (length p))
 
-  pub never_refused {ℓ} : {X : Type ℓ} {why : Refusal} → (feed_of r p b).answer ≡ fed_as.Refused why → X
+  pub never_refused {ℓ} : {X : Type ℓ} {why : Refusal} → (feed_of r p b).answer ≡ Err why → X
   unfolding take_of fed_by
   never_refused e = zero_one (cc (ap (λ (f : Feeding). f.answer) taken ∙ e))
 
   -- a feeding consumes no more than its piece
-  pub took_within : (consumed written : ℕ) (e : Ended) → (feed_of r p b).answer ≡ fed_as.Took consumed written e → consumed ≤ length p
+  pub took_within : (consumed written : ℕ) (e : Option Report) → (feed_of r p b).answer ≡ Ok (taking consumed written e) → consumed ≤ length p
   unfolding take_of fed_by
   took_within consumed written e a =
-      let is_consumed : (plan_of r.opening p r.phase).consumed ≡ consumed = cc (ap (λ (f : Feeding). f.answer) taken ∙ a) in
+      let is_consumed : (plan_of r.opening p r.phase).consumed ≡ consumed = ap (λ (x : Advance). x.consumed) (ok_same (ap (λ (f : Feeding). f.answer) taken ∙ a)) in
       rw (← is_consumed) (plan-fits r.opening p r.phase accepted.phase).within
 
   pub ready_again : Bytes p → Ready (feed_of r p b).reader (length b.gathering) (length b.addresses) (length b.output)
@@ -97,11 +99,11 @@ stands-first l input b block w =
 
 module _ (l : Progress) {input : List ℕ} {b₀ : Lent} {block₀ : List ℕ} {r : Reader} {b : Lent} {used held : ℕ} {block : List ℕ}
     (s : Standing l.have l.reader l.used l.held input b₀ block₀ r b used held block) where
-  pub all_listed : (held + longest ≤ length block₀ → l.have ≤ used) → (m : Progress) → m ≡ progress_of r l.have used held true → Listed l input b₀ block₀ m b block
-  all_listed up m e =
+  pub all_listed : (held + longest ≤ length block₀ → l.have ≤ used) → Listed l input b₀ block₀ (progress_of r l.have used held true) b block
+  all_listed up =
       let left = s.left in
       let is_ready = s.ready in
-      rw e (record {
+      record {
         text = s.text;
         lists = s.lists;
         lines = s.lines;
@@ -109,9 +111,9 @@ module _ (l : Progress) {input : List ℕ} {b₀ : Lent} {block₀ : List ℕ} {
         goes_on = refl;
         used-up = λ h. (let u = up h in omega arith);
         within = record { used = left; have = s.read; held = s.room; ready = rw (← s.gathering, ← s.addresses, ← s.output) is_ready };
-      })
+      }
 
-  module _ {t : Reader} {a : FeedAnswer} {d : Lent} (fed : feeding t a d ≡ feed_of r (take (l.have - used) (drop used input)) b) where
+  module _ {t : Reader} {a : (Result Advance Refusal)} {d : Lent} (fed : feeding t a d ≡ feed_of r (take (l.have - used) (drop used input)) b) where
     abbrev piece : List ℕ
     piece = take (l.have - used) (drop used input)
 
@@ -123,20 +125,20 @@ module _ (l : Progress) {input : List ℕ} {b₀ : Lent} {block₀ : List ℕ} {
         let g = s.read in
         length-take-le (l.have - used) (drop used input) (omega (arith, length-drop used input))
 
-    pub unrefused {ℓ} : {X : Type ℓ} (why : Refusal) → a ≡ fed_as.Refused why → X
+    pub unrefused {ℓ} : {X : Type ℓ} (why : Refusal) → a ≡ Err why → X
     unrefused why is_a = never_refused r piece b s.ready (answered ∙ is_a)
 
-    pub used-more : (consumed written : ℕ) (e : Ended) → a ≡ fed_as.Took consumed written e → used + consumed ≤ l.have
+    pub used-more : (consumed written : ℕ) (e : Option Report) → a ≡ Ok (taking consumed written e) → used + consumed ≤ l.have
     used-more consumed written e is_a =
         let f = s.left in
         omega (arith, length-piece, took_within r piece b s.ready consumed written e (answered ∙ is_a))
 
-    pub used-some : Bytes input → used < l.have → (consumed written : ℕ) (e : Ended) → a ≡ fed_as.Took consumed written e → 0 < consumed
+    pub used-some : Bytes input → used < l.have → (consumed written : ℕ) (e : Option Report) → a ≡ Ok (taking consumed written e) → 0 < consumed
     used-some h m consumed written e is_a =
         progress r piece b consumed written e (bytes_take (l.have - used) (drop used input) (bytes_drop used input h)) (omega (arith, length-piece)) (answered ∙ is_a)
 
     pub stands_took : Bytes input → length d.gathering ≡ length b.gathering → length d.addresses ≡ length b.addresses → length d.output ≡ length b.output
-        → (consumed written : ℕ) (e : Ended) → a ≡ fed_as.Took consumed written e → (waits : ℕ) (after : List ℕ) → Noted (line_in e) block held waits after
+        → (consumed written : ℕ) (e : Option Report) → a ≡ Ok (taking consumed written e) → (waits : ℕ) (after : List ℕ) → Noted (line_in e) block held waits after
         → Standing l.have l.reader l.used l.held input b₀ block₀ t d (used + consumed) waits after
     stands_took h lg la lo consumed written e is_a waits after n =
         let w = s.waits in

@@ -1,22 +1,18 @@
 -- A line behind those that wait. Assumes nothing.
-use Rattle.walks.proofs.Words.{◌≡◌, ap, ◌∙◌, ℕ, ◌+◌, ◌^◌, ◌≤◌, ◌<◌, arith, List, length, sets, le-leb}
-use Rattle.list_program.proofs.Terms.{Line, Written, longest, Writing, writing, write_at, Grows, grown, Noted}
+use Rattle.std.specs.Prelude.{Option, Some}
+use Rattle.std.specs.Option.{unwrap_or}
+use Rattle.walks.proofs.Words.{◌≡◌, ap, ◌∙◌, ℕ, ◌+◌, ◌≤◌, arith, List, length, sets, le-leb}
+use Rattle.list_program.proofs.Terms.{longest, Writing, writing, write_at, Noted}
 
-module _ (line out : List ℕ) (place : ℕ) (r : Line) (after : List ℕ) (e : writing r after ≡ write_at line out place) (short : length line ≤ longest) (room : place + longest ≤ length out) where
-  -- where the longest line has room, the line is written
-  placed : writing r after ≡ writing (Written (length line)) (sets out place line)
-  unfolding write_at
-  placed = rw (le-leb (place + length line) (length out) (omega arith)) at e
-
-  answered : r ≡ Written (length line)
-  answered = ap (λ (w : Writing). w.answer) placed
-
-  pub grows : length out < 2 ^ 64 → Grows place r
-  grows h = rw answered (omega arith)
-
-  pub noted : (waits : ℕ) → waits ≡ grown place r → Noted line out place waits after
-  noted waits w = record {
-    placed = ap (λ (x : Writing). x.output) placed;
-    counted = w ∙ ap (grown place) answered;
-    within = omega (arith, w ∙ ap (grown place) answered);
-  }
+-- where the longest line has room, the line is written
+pub noted : (line out : List ℕ) (place : ℕ) (r : Option ℕ) (after : List ℕ) → writing r after ≡ write_at line out place → length line ≤ longest → place + longest ≤ length out
+    → (size : ℕ) → size ≡ unwrap_or r 0 → Noted line out place (place + size) after
+unfolding write_at
+noted line out place r after e short room size s =
+    let placed : writing r after ≡ writing (Some (length line)) (sets out place line) = rw (le-leb (place + length line) (length out) (omega arith)) at e in
+    let written : size ≡ length line = s ∙ ap (λ (w : Writing). unwrap_or w.answer 0) placed in
+    record {
+      placed = ap (λ (w : Writing). w.output) placed;
+      counted = omega (arith, written);
+      within = omega (arith, written);
+    }

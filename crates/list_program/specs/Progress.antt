@@ -1,35 +1,27 @@
 -- How far a listing has come, and what its steps do: contracts inside the crate.
-use Rattle.std.specs.Prelude.{◌≡◌, ℕ, ◌+◌, ◌-◌, ◌^◌, ◌≤◌, ◌<◌, Bool, true, false, List, [], ◌++◌, length, take, drop}
+use Rattle.opening.specs.declared.Report.{Report}
+use Rattle.capsule.specs.Reader.{taking}
+use Rattle.std.specs.Prelude.{◌≡◌, ℕ, ◌+◌, ◌-◌, ◌≤◌, Bool, true, false, List, [], ◌++◌, length, take, drop, Option, Some, None, Ok}
 use Rattle.std.proofs.lemmas.List.Edits.{sets}
 use Rattle.opening.specs.declared.Role.TheVariants.{Endpoint}
 use Rattle.capsule.specs.declared.reader.Reader.{Reader}
-use Rattle.planning.specs.declared.Ended.{Ended}
-use Rattle.planning.specs.declared.Ended.TheVariants.{Nothing, Capsule}
-use Rattle.capsule.specs.declared.reader.FeedAnswer.TheVariants as fed_as
-use Rattle.opening.specs.declared.Verdict.TheVariants.{Accepted}
-use Rattle.capsule.specs.Calls.{Lent}
+use Rattle.capsule.specs.Calls.{Lent, lent}
 use Rattle.capsule.specs.Reader.{opening, verdict_of, feeding, feed_of}
-use Rattle.text_lines.specs.declared.Line.{Line}
-use Rattle.text_lines.specs.declared.Line.TheVariants.{Written, NoRoom}
 use Rattle.text_lines.specs.Lines.{report_line, longest}
 use Rattle.list_program.specs.declared.Progress.{Progress}
+use Rattle.list_program.specs.declared.Buffers.{Buffers}
 
 abbrev pub progress_of : Reader → ℕ → ℕ → ℕ → Bool → Progress
 progress_of reader have used held going = record { reader = reader; have = have; used = used; held = held; going = going }
 
--- a line was written, and what waits with it is still a number of bytes
-abbrev pub Grows : ℕ → Line → Type 0
-Grows held (Written size) = held + size < 2 ^ 64
-Grows held NoRoom = ⊥
-
-abbrev pub grown : ℕ → Line → ℕ
-grown held (Written size) = held + size
-grown held NoRoom = held
+-- what readers are lent
+abbrev pub lent_of : Buffers → Lent
+lent_of b = lent b.gathering b.addresses b.output
 
 -- the line of what ended in a feeding
-unfoldable pub line_in : Ended → List ℕ
-line_in Nothing = []
-line_in (Capsule r) = report_line r
+unfoldable pub line_in : Option Report → List ℕ
+line_in None = []
+line_in (Some r) = report_line r
 
 -- a line stands in the block behind the `held` bytes that waited, and waits with them
 pub record Noted (line block : List ℕ) (held waits : ℕ) (after : List ℕ) : Type 0 where
@@ -41,15 +33,15 @@ pub record Noted (line block : List ℕ) (held waits : ℕ) (after : List ℕ) :
 -- and what place they come to, and the lines of what ended in them
 pub data Lists (input : List ℕ) (have : ℕ) (r₀ : Reader) (b₀ : Lent) (from : ℕ) : Reader → Lent → ℕ → List ℕ → Type 0 where
   none : Lists input have r₀ b₀ from r₀ b₀ from []
-  took : {r s : Reader} {b d : Lent} {used consumed written : ℕ} {text : List ℕ} {e : Ended}
+  took : {r s : Reader} {b d : Lent} {used consumed written : ℕ} {text : List ℕ} {e : (Option Report)}
       → Lists input have r₀ b₀ from r b used text
-      → feeding s (fed_as.Took consumed written e) d ≡ feed_of r (take (have - used) (drop used input)) b
+      → feeding s (Ok (taking consumed written e)) d ≡ feed_of r (take (have - used) (drop used input)) b
       → Lists input have r₀ b₀ from s d (used + consumed) (text ++ line_in e)
 
 -- "as an endpoint, limit 1,200, draft off", and without address capsules; a reader that refuses no piece with buffers of these lengths
 pub record Ready (r : Reader) (gathering addresses output : ℕ) : Type 0 where
   pub opened : r.opening ≡ opening Endpoint 1200 false false
-  pub accepts : (piece : ℕ) → verdict_of r piece gathering addresses output ≡ Accepted
+  pub accepts : (piece : ℕ) → verdict_of r piece gathering addresses output ≡ (Ok tt)
 
 -- the state has this reader, and is within its blocks
 pub record Read (l : Progress) (r : Reader) (input block : ℕ) : Type 0 where

@@ -1,24 +1,25 @@
 // The listing program (document 01, "Bench cases"): the capsules of a stream, one line each.
 #![tactic(auto)]
 
-ghost use Rattle.std.specs.Prelude.{◌≡◌, true, false, ◌+◌, ◌≤◌, ◌<◌, length};
-ghost use Rattle.capsule.specs.Calls.{lent};
+ghost use Rattle.std.specs.Prelude.{true, false, ◌+◌, ◌≤◌, ◌<◌, length};
 ghost use Rattle.text_lines.specs.Lines.{end_line, longest};
-ghost use Rattle.list_program.specs.Progress.{progress_of, Grows, grown, line_in, Noted, Ready, Read, Within, Listed};
+ghost use Rattle.list_program.specs.Progress.{line_in, lent_of, Noted, Ready, Read, Within, Listed};
 
-use capsule::reader::{CloseAnswer, FeedAnswer, Opened, Reader};
-use opening::Role;
-use planning::Ended;
+use capsule::reader::{Ending, Reader};
+use opening::{Report, Role};
+use refusals::Refusal;
 use std::env::FillError;
 use std::io::{Cursor, Read, Write};
 use std::rt::{Env, Files};
 use std::{fs, io};
-use text_lines::{LONGEST, Line};
+use text_lines::LONGEST;
 
 // The longest DATAGRAM that is delivered.
 const LIMIT: u64 = 1200;
 
-// How far a listing has come.
+// How far a listing has come. `going` is no Option: the lines that wait are written when there is no more to do, too.
+// What is listed, its name and the runtime stay arguments: a struct of three references would be made once and taken
+// apart in each function.
 #[derive(Clone, Copy)]
 struct Progress {
     reader: Reader,
@@ -29,6 +30,17 @@ struct Progress {
     held: usize,
     // there is more to do
     going: bool,
+}
+
+// What readers are lent, and the lines that wait. The input stays beside it (tried: the proof did not close): of an
+// array field behind a reference the check knows the length, not that its items are bytes, as the reader's laws ask.
+#[derive(Drop)]
+struct Buffers {
+    gathering: [u8; 1200],
+    // of an endpoint that did not opt in neither is asked for
+    addresses: [u8; 0],
+    output: [u8; 0],
+    block: [u8; 65536],
 }
 
 // Lists the file that the one argument names, or standard input where there is none. More arguments are refused.
@@ -86,56 +98,33 @@ fn fail(rt: &impl Eprint, what: &str, why: io::Error) {
 
 // Lists what a reader gives. The name is for messages.
 fn list(rt: &(impl Print + Eprint), source: &mut impl Read, name: &str) {
-    let mut input = [0u8; 65536];
-    let mut block = [0u8; 65536];
-    let mut gathering = [0u8; 1200];
-    // of an endpoint that did not opt in neither is asked for
-    let mut addresses = [0u8; 0];
-    let mut output = [0u8; 0];
-    let opened = Reader::open(Role::Endpoint, LIMIT, false, false);
-    match opened {
-        Opened::Refused(_) => {
+    match Reader::open(Role::Endpoint, LIMIT, false, false) {
+        Err(_) => {
             let _ = eprintln!(rt; "the limit is refused");
         }
-        Opened::Ready(reader) => {
-            list_all(
-                rt,
-                source,
-                name,
-                reader,
-                &mut input,
-                &mut gathering,
-                &mut addresses,
-                &mut output,
-                &mut block,
-            );
-        }
+        Ok(reader) => list_all(rt, source, name, reader),
     }
 }
 
 // Goes on until the last line waits or a failure was said, and writes what waits then.
-fn list_all(
-    rt: &(impl Print + Eprint),
-    source: &mut impl Read,
-    name: &str,
-    reader: Reader,
-    input: &mut [u8],
-    gathering: &mut [u8],
-    addresses: &mut [u8],
-    output: &mut [u8],
-    block: &mut [u8],
-)
-    requires { (longest ≤ length block.old) × Ready reader (length gathering.old) (length addresses.old) (length output.old) }
+fn list_all(rt: &(impl Print + Eprint), source: &mut impl Read, name: &str, reader: Reader)
+    requires { Ready reader 1200 0 0 }
 {
-    let mut l = start(reader, block);
-    let mut turns = u64::MAX;
-    while turns > 0 && l.going {
-        l = step(
-            rt, source, name, l, input, gathering, addresses, output, block,
-        );
-        turns -= 1;
+    let mut input = [0u8; 65536];
+    let mut buffers = Buffers {
+        gathering: [0; 1200],
+        addresses: [],
+        output: [],
+        block: [0; 65536],
+    };
+    let mut l = start(reader, &mut buffers.block);
+    for _ in 0..u64::MAX {
+        if !l.going {
+            break;
+        }
+        l = step(rt, source, name, l, &mut input, &mut buffers);
     }
-    let _ = write_held(rt, block, l.held);
+    let _ = write_held(rt, &buffers.block, l.held);
 }
 
 // The first line waits.
@@ -143,8 +132,13 @@ fn start(reader: Reader, block: &mut [u8]) -> Progress
     requires { longest ≤ length block.old }
     ensures { Read result reader 0 (length block.new) }
 {
-    let line = text_lines::write_limit(LIMIT, block, 0);
-    Progress::new(reader, 0, 0, grow(0, line), true)
+    Progress {
+        reader,
+        have: 0,
+        used: 0,
+        held: text_lines::write_limit(LIMIT, block, 0).unwrap_or(0),
+        going: true,
+    }
 }
 
 // One step of a listing: writes where a line might not fit, else feeds what was read, else reads.
@@ -154,24 +148,23 @@ fn step(
     name: &str,
     l: Progress,
     input: &mut [u8],
-    gathering: &mut [u8],
-    addresses: &mut [u8],
-    output: &mut [u8],
-    block: &mut [u8],
+    buffers: &mut Buffers,
 ) -> Progress
-    requires { Within l (length input.old) (length gathering.old) (length addresses.old) (length output.old) (length block.old) }
-    ensures { Within result (length input.new) (length gathering.new) (length addresses.new) (length output.new) (length block.new) }
+    requires { Within l (length input.old) 1200 0 0 65536 }
+    ensures { Within result (length input.new) 1200 0 0 65536 }
 {
-    let held = l.held;
-    if block.len() - held < LONGEST {
-        let going = write_held(rt, block, held);
-        let reader = l.reader;
-        return Progress::new(reader, l.have, l.used, 0, going);
+    if buffers.block.len() - l.held < LONGEST {
+        let going = write_held(rt, &buffers.block, l.held);
+        return Progress {
+            held: 0,
+            going,
+            ..l
+        };
     }
     if l.used < l.have {
-        return list_read(l, input, gathering, addresses, output, block);
+        return list_read(l, input, buffers);
     }
-    read_more(rt, source, name, l, input, block)
+    read_more(rt, source, name, l, input, buffers)
 }
 
 // Writes the lines that wait. Standard error gets a line where that fails.
@@ -187,128 +180,106 @@ fn write_held(rt: &(impl Print + Eprint), block: &[u8], held: usize) -> bool
     }
 }
 
-impl Progress {
-    fn new(reader: Reader, have: usize, used: usize, held: usize, going: bool) -> Self
-        ensures { result ≡ progress_of reader have used held going }
-    {
-        Self {
-            reader: reader,
-            have: have,
-            used: used,
-            held: held,
-            going: going,
-        }
-    }
-}
-
-// What waits with a line that was written behind it. A caller shows that it was.
-fn grow(held: usize, line: Line) -> usize
-    requires { Grows held line }
-    ensures { result ≡ grown held line }
-{
-    match line {
-        Line::Written { size } => held + size,
-        Line::NoRoom => held,
-    }
-}
-
 // Feeds what was read, until it is used up or a line might not fit any more.
-fn list_read(
-    l: Progress,
-    input: &[u8],
-    gathering: &mut [u8],
-    addresses: &mut [u8],
-    output: &mut [u8],
-    block: &mut [u8],
-) -> Progress
-    requires { Within l (length input.now) (length gathering.old) (length addresses.old) (length output.old) (length block.old) }
-    ensures { Listed l input.now (lent gathering.old addresses.old output.old) block.old result (lent gathering.new addresses.new output.new) block.new }
+fn list_read(l: Progress, input: &[u8], buffers: &mut Buffers) -> Progress
+    requires { Within l (length input.now) 1200 0 0 65536 }
+    ensures { Listed l input.now (lent_of buffers.old) buffers.old.block
+        result (lent_of buffers.new) buffers.new.block }
 {
+    let Buffers {
+        gathering,
+        addresses,
+        output,
+        block,
+    } = buffers;
     let have = l.have;
     let mut reader = l.reader;
     let mut used = l.used;
     let mut held = l.held;
-    while is_due(used, have, held, block.len()) {
+    while used < have && block.len() - held >= LONGEST {
         let fed = reader.feed(&input[used..have], gathering, addresses, output);
-        let answer = fed.answer;
         reader = fed.reader;
-        match answer {
-            FeedAnswer::Refused(why) => {
-                let last = note_end(CloseAnswer::Refused(why), block, held);
-                return Progress::new(reader, have, used, last, false);
+        match fed.answer {
+            Err(why) => {
+                let last = note_end(Err(why), block, held);
+                return Progress {
+                    reader,
+                    have,
+                    used,
+                    held: last,
+                    going: false,
+                };
             }
-            FeedAnswer::Took {
-                consumed,
-                written: _,
-                ended,
-            } => {
-                used += consumed;
-                held = note(ended, block, held);
+            Ok(took) => {
+                used += took.consumed;
+                held = note(took.ended, block, held);
             }
         }
     }
-    Progress::new(reader, have, used, held, true)
+    Progress {
+        reader,
+        have,
+        used,
+        held,
+        going: true,
+    }
 }
 
-// One read, or the last line at the end of the input. Standard error gets a line where reading fails, and there is no last line.
+// One read, or the last line at the end of the input. Standard error gets a line where reading fails, and there is no
+// last line.
 fn read_more(
     rt: &impl Eprint,
     source: &mut impl Read,
     name: &str,
     l: Progress,
     input: &mut [u8],
-    block: &mut [u8],
+    buffers: &mut Buffers,
 ) -> Progress
-    requires { l.held + longest ≤ length block.old }
-    ensures { Read result l.reader (length input.new) (length block.new) }
+    requires { l.held + longest ≤ 65536 }
+    ensures { Read result l.reader (length input.new) 65536 }
 {
-    let reader = l.reader;
-    let held = l.held;
+    let read = Progress {
+        have: 0,
+        used: 0,
+        ..l
+    };
     match source.read(input) {
         Err(why) => {
             fail(rt, name, why);
-            Progress::new(reader, 0, 0, held, false)
+            Progress {
+                going: false,
+                ..read
+            }
         }
-        Ok(0) => {
-            let closed = reader.close();
-            let end = closed.answer;
-            let last = note_end(end, block, held);
-            Progress::new(reader, 0, 0, last, false)
-        }
-        Ok(have) => Progress::new(reader, have, 0, held, true),
+        Ok(0) => Progress {
+            held: note_end(l.reader.close().answer, &mut buffers.block, l.held),
+            going: false,
+            ..read
+        },
+        Ok(have) => Progress {
+            have,
+            going: true,
+            ..read
+        },
     }
-}
-
-// Whether a feeding is due, and any line of it has room.
-fn is_due(used: usize, have: usize, held: usize, room: usize) -> bool
-    requires { held ≤ room }
-    ensures { (result ≡ true → (used < have) × (held + longest ≤ room)) × (result ≡ false → held + longest ≤ room → have ≤ used) }
-{
-    if used >= have {
-        return false;
-    }
-    room - held >= LONGEST
-}
-
-// The last line, likewise.
-fn note_end(end: CloseAnswer, block: &mut [u8], held: usize) -> usize
-    requires { held + longest ≤ length block.old }
-    ensures { Noted (end_line end) block.old held result block.new }
-{
-    let line = text_lines::write_end(end, block, held);
-    grow(held, line)
 }
 
 // The line of what ended in a feeding, behind those that wait. Answers what waits then.
-fn note(ended: Ended, block: &mut [u8], held: usize) -> usize
+#[tactic(auto, unfolding(crate::specs::Progress::line_in))]
+fn note(ended: Option<Report>, block: &mut [u8], held: usize) -> usize
     requires { held + longest ≤ length block.old }
     ensures { Noted (line_in ended) block.old held result block.new }
 {
     match ended {
-        Ended::Nothing => held,
-        Ended::Capsule(report) => {
-            let line = text_lines::write_report(report, block, held);
-            grow(held, line)
-        }
+        None => held,
+        Some(report) => { held + text_lines::write_report(report, block, held).unwrap_or(0) }
     }
+}
+
+// The last line, likewise.
+fn note_end(end: Result<Ending, Refusal>, block: &mut [u8], held: usize) -> usize
+    requires { held + longest ≤ length block.old }
+    ensures { Noted (end_line end) block.old held result block.new }
+{
+    held + text_lines::write_end(end, block, held).unwrap_or(0)
 }

@@ -1,6 +1,8 @@
 -- Bytes to come: the type and the length at the front of a tail stay whatever follows, so that only the number of the bytes that follow decides.
+use Rattle.std.specs.Prelude.{Some, Ok, Err}
+use Rattle.short_forms.specs.Short.{varint_of}
 use Rattle.walks.proofs.Words.{◌≡◌, refl, sym, ap, ◌∙◌, ℕ, ◌+◌, ◌-◌, ◌<◌, arith, Bool, true, false, cond, List, ◌++◌, length, drop, length-append, eqb}
-use Rattle.look.proofs.Terms.{unmakeable_state, Whole, read_varint, partial_of, Opening, Reader, Stage, in_value, part, Parts, extent_of, parts_for, phase_at, phase_of, reader_of, is_makeable, zero_one, sees_type, sees_length, sees_value, sees_whole, head_stays, one, Shows, tail_shows, parts_goes, parts-ends, Buffer, Between, InType, InValue, Sight, Refused, Seen, place_of, sight_of, look_of, Completes, ToComeCompletes}
+use Rattle.look.proofs.Terms.{unmakeable_state, read_varint, partial_of, Opening, Reader, Stage, in_value, part, Parts, extent_of, parts_for, phase_at, phase_of, reader_of, is_makeable, zero_one, sees_type, sees_length, sees_value, sees_whole, head_stays, one, Shows, tail_shows, parts_goes, parts-ends, Buffer, Between, InType, InValue, Sight, place_of, sight_of, look_of, Completes, ToComeCompletes}
 
 -- a type, a length and a part of the value
 module _ (op : Opening) (s : List ℕ) (t n j k : ℕ) where
@@ -10,7 +12,7 @@ module _ (op : Opening) (s : List ℕ) (t n j k : ℕ) where
   abbrev end : ℕ
   end = j + k + extent_of op t n
 
-  waits : read_varint r ≡ Whole t j → read_varint (drop j r) ≡ Whole n k → length r < end → Completes op s t n (end - length r)
+  waits : read_varint r ≡ Some (varint_of t j) → read_varint (drop j r) ≡ Some (varint_of n k) → length r < end → Completes op s t n (end - length r)
   waits e d h = record {
     some_byte = omega arith;
     none_by_fewer = λ x l.
@@ -40,11 +42,11 @@ told op s t n left gathered b x (sees_value {t = t'} {j = j} {n = n'} {k = k} e 
     let l : j + k + extent_of op t' n' - length (parts_for op s).tail ≡ left = cc in
     rw (← a, ← c, ← l) (waits op s t' n' j k e d h)
 
-sight_is : (r : Reader) (sight : Sight) → look_of r ≡ Seen sight → sight_of r ≡ sight
+sight_is : (r : Reader) (sight : Sight) → look_of r ≡ Ok sight → sight_of r ≡ sight
 unfolding look_of
 sight_is r sight = go (is_makeable r)
   where
-    go : (m : Bool) → cond m (Seen (sight_of r)) (Refused unmakeable_state) ≡ Seen sight → sight_of r ≡ sight
+    go : (m : Bool) → cond m (Ok (sight_of r)) (Err unmakeable_state) ≡ Ok sight → sight_of r ≡ sight
     go true e = cc e
     go false e = zero_one (cc e)
 

@@ -1,21 +1,22 @@
 -- Of every state: by whether it is makeable, which its mark does not decide; and the buffer of a value.
+use Rattle.std.specs.Prelude.{Ok, Err}
 use Rattle.walks.proofs.Words.{◌≡◌, refl, sym, ap, ◌∙◌, ◌↔◌, ℕ, ◌≤◌, arith, Bool, true, false, cond, inl, inr}
-use Rattle.look.proofs.Terms.{unmakeable_state, Opening, gathers, keeps, is_makeable, zero_one, no_true, Makes, IsAddress, IsDatagram, gathers_exactly, keeps_exactly, makeable_exactly, Refused, Seen, buffer_of, stored_in, sight_of, look_of, BufferOf, BufferExactly, StoredExactly, RefusedExactly, marked, seen_marked, FinishedSeen}
+use Rattle.look.proofs.Terms.{unmakeable_state, Opening, gathers, keeps, is_makeable, zero_one, no_true, Makes, IsAddress, IsDatagram, gathers_exactly, keeps_exactly, makeable_exactly, buffer_of, stored_in, sight_of, look_of, BufferOf, BufferExactly, StoredExactly, RefusedExactly, marked, seen_marked, FinishedSeen}
 use Rattle.look.specs.declared.Buffer.TheVariants as buffer
 
 pub refused_exactly : RefusedExactly
 unfolding look_of
 refused_exactly r why = go (is_makeable r) refl
   where
-    go : (m : Bool) → is_makeable r ≡ m → (cond m (Seen (sight_of r)) (Refused unmakeable_state) ≡ Refused why) ↔ ((why ≡ unmakeable_state) × (Makes r → ⊥))
+    go : (m : Bool) → is_makeable r ≡ m → (cond m (Ok (sight_of r)) (Err unmakeable_state) ≡ Err why) ↔ ((why ≡ unmakeable_state) × (Makes r → ⊥))
     go true e = (λ q. zero_one (cc q), λ q. absurd (q.1 ((makeable_exactly r).0 e)))
-    go false e = (λ q. (cc q, λ m. no_true (sym e ∙ (makeable_exactly r).1 m)), λ q. ap Refused (sym q.0))
+    go false e = (λ q. (cc q, λ m. no_true (sym e ∙ (makeable_exactly r).1 m)), λ q. ap Err (sym q.0))
 
 pub finished-seen : FinishedSeen
 unfolding look_of sight_of marked is_makeable
 finished-seen r mark = go (is_makeable r)
   where
-    go : (m : Bool) → cond m (Seen (sight_of (marked mark r))) (Refused unmakeable_state) ≡ seen_marked mark (cond m (Seen (sight_of r)) (Refused unmakeable_state))
+    go : (m : Bool) → cond m (Ok (sight_of (marked mark r))) (Err unmakeable_state) ≡ seen_marked mark (cond m (Ok (sight_of r)) (Err unmakeable_state))
     go true = unfold seen_marked in refl
     go false = unfold seen_marked in refl
 

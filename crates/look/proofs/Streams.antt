@@ -1,6 +1,8 @@
 -- What a look says of the reader of a stream is what the grammar says of the stream: of each stage, by what stands at the tail's front.
+use Rattle.std.specs.Prelude.{Some}
+use Rattle.short_forms.specs.Short.{varint_of}
 use Rattle.walks.proofs.Words.{◌≡◌, refl, ◌∙◌, ℕ, suc, ◌+◌, ◌-◌, ◌<◌, arith, Bool, true, false, cond, List, [], ◌∷◌, length, drop, length-drop, leb, ne_eqb}
-use Rattle.look.proofs.Terms.{Whole, read_varint, partial_of, no_whole_nil, both, longest_address_value, Opening, Kind, Datagram, Address, Unknown, Stage, in_length, in_value, part, kind_of, extent_by, extent_of, parts_for, phase_at, phase_of, reader_of, is_makeable, sees_type, sees_length, sees_value, head_fits, Shows, tail_shows, made-stream, InValue, buffer_of, stored_in, place_of, sight_of, look_of, within_at, place_at, place_in, LookOfStream}
+use Rattle.look.proofs.Terms.{read_varint, partial_of, no_whole_nil, both, longest_address_value, Opening, Kind, Datagram, Address, Unknown, Stage, in_length, in_value, part, kind_of, extent_by, extent_of, parts_for, phase_at, phase_of, reader_of, is_makeable, sees_type, sees_length, sees_value, head_fits, Shows, tail_shows, made-stream, InValue, buffer_of, stored_in, place_of, sight_of, look_of, within_at, place_at, place_in, LookOfStream}
 
 -- a value that is waited for is waited for to its length
 all_waited : (op : Opening) (t n : ℕ) → 0 < extent_of op t n → extent_of op t n ≡ n
@@ -17,7 +19,7 @@ all_waited op t n = go (kind_of op t)
     go Unknown h = unfold extent_by in refl
 
 -- behind a type stands at least one byte
-within : (op : Opening) (r : List ℕ) (x : Stage) (t j : ℕ) → read_varint r ≡ Whole t j → within_at op r x ≡ place_at op r x
+within : (op : Opening) (r : List ℕ) (x : Stage) (t j : ℕ) → read_varint r ≡ Some (varint_of t j) → within_at op r x ≡ place_at op r x
 unfolding place_at
 within op [] x t j e = no_whole_nil e
 within op (b ∷ r) x t j e = refl

@@ -1,5 +1,7 @@
 -- Streams, and what a look then says. One statement carries them: `Cases`, proved in proofs/Cases.antt.
-use Rattle.std.specs.Prelude.{◌≡◌, ℕ, ◌-◌, ◌^◌, true, false, List, [], ◌∷◌, map, replicate}
+use Rattle.refusals.specs.declared.Refusal.{Refusal}
+use Rattle.look.specs.declared.Sight.{Sight}
+use Rattle.std.specs.Prelude.{◌≡◌, ℕ, ◌-◌, ◌^◌, true, false, List, [], ◌∷◌, map, replicate, Result, Ok, Err}
 use Rattle.refusals.specs.Numbers.{refusal}
 use Rattle.wire.specs.Partial.{partial}
 use Rattle.opening.specs.declared.Role.TheVariants.{Endpoint, Intermediary}
@@ -11,8 +13,6 @@ use Rattle.capsule.specs.Reader.{opening}
 use Rattle.look.specs.declared.Buffer.TheVariants.{Neither, Gathering, Addresses}
 use Rattle.look.specs.declared.Place.{Place}
 use Rattle.look.specs.declared.Place.TheVariants.{Between, InType, InLength, InValue}
-use Rattle.look.specs.declared.Looked.{Looked}
-use Rattle.look.specs.declared.Looked.TheVariants.{Refused, Seen}
 use Rattle.look.specs.Looking.{look_of}
 
 -- an endpoint that did not opt in, with this datagram limit; one that did; an intermediary, whose opting in has no effect
@@ -27,26 +27,26 @@ intermediary = opening Intermediary 1200 false true
 
 pub data Case : Type 0 where
   -- what a reader of these bytes answers, if it is not finished and if it is
-  after : Opening → List ℕ → Looked → Case
-  finished_after : Opening → List ℕ → Looked → Case
+  after : Opening → List ℕ → Result Sight Refusal → Case
+  finished_after : Opening → List ℕ → Result Sight Refusal → Case
   -- what a state answers
-  state : (limit : ℕ) → Phase → Looked → Case
+  state : (limit : ℕ) → Phase → Result Sight Refusal → Case
 
-abbrev pub got : Case → Looked
+abbrev pub got : Case → Result Sight Refusal
 got (after op s l) = look_of (reader_of op s false)
 got (finished_after op s l) = look_of (reader_of op s true)
 got (state limit p l) = look_of (record { opening = plain limit; phase = p; finished = false })
 
-abbrev pub expected : Case → Looked
+abbrev pub expected : Case → Result Sight Refusal
 expected (after op s l) = l
 expected (finished_after op s l) = l
 expected (state limit p l) = l
 
-abbrev seen : ℕ → Place → Looked
-seen limit place = Seen (record { finished = false; limit = limit; place = place })
+abbrev seen : ℕ → Place → Result Sight Refusal
+seen limit place = Ok (record { finished = false; limit = limit; place = place })
 
-abbrev seen_finished : ℕ → Place → Looked
-seen_finished limit place = Seen (record { finished = true; limit = limit; place = place })
+abbrev seen_finished : ℕ → Place → Result Sight Refusal
+seen_finished limit place = Ok (record { finished = true; limit = limit; place = place })
 
 abbrev pub table : List Case
 table =
@@ -80,11 +80,11 @@ table =
     ∷ finished_after (plain 0) [] (seen_finished 0 Between)
     ∷ finished_after (plain 1200) (0x00 ∷ 0x05 ∷ 0x61 ∷ 0x62 ∷ []) (seen_finished 1200 (InValue 0 5 3 2 Gathering))
     -- states that cannot be made: a limit that is too large, a whole varint held as a part, no bytes to come, more than the length
-    ∷ state 65536 (phase.InType (partial 0 0)) (Refused (refusal 1))
+    ∷ state 65536 (phase.InType (partial 0 0)) (Err (refusal 1))
     ∷ state 65535 (phase.InType (partial 0 0)) (seen 65535 Between)
-    ∷ state 1200 (phase.InType (partial 1 0x3f)) (Refused (refusal 1))
-    ∷ state 1200 (phase.InValue 0 5 0) (Refused (refusal 1))
-    ∷ state 1200 (phase.InValue 0 5 6) (Refused (refusal 1))
+    ∷ state 1200 (phase.InType (partial 1 0x3f)) (Err (refusal 1))
+    ∷ state 1200 (phase.InValue 0 5 0) (Err (refusal 1))
+    ∷ state 1200 (phase.InValue 0 5 6) (Err (refusal 1))
     ∷ state 1200 (phase.InValue 0 5 5) (seen 1200 (InValue 0 5 5 0 Gathering))
     ∷ []
 

@@ -1,5 +1,5 @@
 -- What holds of a look. Each claim is a type here, and is proved in proofs/ under the name given.
-use Rattle.std.specs.Prelude.{◌≡◌, ◌↔◌, ℕ, ◌-◌, ◌≤◌, ◌<◌, Bool, true, List, [], ◌∷◌, ◌++◌, length, drop}
+use Rattle.std.specs.Prelude.{◌≡◌, ◌↔◌, ℕ, ◌-◌, ◌≤◌, ◌<◌, Bool, true, List, [], ◌∷◌, ◌++◌, length, drop, Result, Ok, Err}
 use Rattle.refusals.specs.declared.Refusal.{Refusal}
 use Rattle.refusals.specs.Numbers.{unmakeable_state}
 use Rattle.wire.specs.Bytes.{Bytes}
@@ -16,8 +16,6 @@ use Rattle.look.specs.declared.Buffer.TheVariants as buffer
 use Rattle.look.specs.declared.Place.{Place}
 use Rattle.look.specs.declared.Place.TheVariants.{Between, InType, InLength, InValue}
 use Rattle.look.specs.declared.Sight.{Sight}
-use Rattle.look.specs.declared.Looked.{Looked}
-use Rattle.look.specs.declared.Looked.TheVariants.{Refused, Seen}
 use Rattle.look.specs.Looking.{buffer_of, stored_in, look_of}
 
 -- ---- what is told is the grammar's (proofs/Streams.antt)
@@ -43,7 +41,7 @@ LookOfStream =
     (op : Opening) (s : List ℕ) (mark : Bool)
     → is_opening op ≡ true
     → Bytes s
-    → look_of (reader_of op s mark) ≡ Seen (record { finished = mark; limit = op.limit; place = place_in op (parts_for op s) })
+    → look_of (reader_of op s mark) ≡ Ok (record { finished = mark; limit = op.limit; place = place_in op (parts_for op s) })
 
 -- ---- the buffer of a value (proofs/States.antt)
 
@@ -75,7 +73,7 @@ pub record Completes (op : Opening) (s : List ℕ) (t n left : ℕ) : Type 0 whe
 abbrev pub ToComeCompletes : Type 0
 ToComeCompletes =
     (op : Opening) (s : List ℕ) (mark : Bool) (sight : Sight) (t n left gathered : ℕ) (buffer : Buffer)
-    → look_of (reader_of op s mark) ≡ Seen sight
+    → look_of (reader_of op s mark) ≡ Ok sight
     → sight.place ≡ InValue t n left gathered buffer
     → Completes op s t n left
 
@@ -83,15 +81,15 @@ ToComeCompletes =
 
 -- refusal 1 alone, and exactly for what no accepted opening and no calls make
 abbrev pub RefusedExactly : Type 0
-RefusedExactly = (r : Reader) (why : Refusal) → (look_of r ≡ Refused why) ↔ ((why ≡ unmakeable_state) × (Makes r → ⊥))
+RefusedExactly = (r : Reader) (why : Refusal) → (look_of r ≡ Err why) ↔ ((why ≡ unmakeable_state) × (Makes r → ⊥))
 
 -- the mark is told, and changes nothing else that is told
 unfoldable pub marked : Bool → Reader → Reader
 marked mark r = record { opening = r.opening; phase = r.phase; finished = mark }
 
-unfoldable pub seen_marked : Bool → Looked → Looked
-seen_marked mark (Refused why) = Refused why
-seen_marked mark (Seen sight) = Seen (record { finished = mark; limit = sight.limit; place = sight.place })
+unfoldable pub seen_marked : Bool → Result Sight Refusal → Result Sight Refusal
+seen_marked mark (Err why) = Err why
+seen_marked mark (Ok sight) = Ok (record { finished = mark; limit = sight.limit; place = sight.place })
 
 abbrev pub FinishedSeen : Type 0
 FinishedSeen = (r : Reader) (mark : Bool) → look_of (marked mark r) ≡ seen_marked mark (look_of r)

@@ -1,5 +1,6 @@
 -- What a look at a reader says, by the reader's state.
-use Rattle.std.specs.Prelude.{ℕ, ◌-◌, cond, eqb}
+use Rattle.refusals.specs.declared.Refusal.{Refusal}
+use Rattle.std.specs.Prelude.{ℕ, ◌-◌, cond, eqb, Result, Ok, Err}
 use Rattle.refusals.specs.Numbers.{unmakeable_state}
 use Rattle.opening.specs.declared.Opening.{Opening}
 use Rattle.planning.specs.declared.Phase.{Phase}
@@ -12,8 +13,6 @@ use Rattle.look.specs.declared.Buffer.TheVariants.{Neither, Gathering, Addresses
 use Rattle.look.specs.declared.Place.{Place}
 use Rattle.look.specs.declared.Place.TheVariants.{Between, InType, InLength, InValue}
 use Rattle.look.specs.declared.Sight.{Sight}
-use Rattle.look.specs.declared.Looked.{Looked}
-use Rattle.look.specs.declared.Looked.TheVariants.{Refused, Seen}
 
 -- the buffer that the value of a capsule of type t and length n is stored in
 unfoldable pub buffer_of : Opening → ℕ → ℕ → Buffer
@@ -34,5 +33,5 @@ unfoldable pub sight_of : Reader → Sight
 sight_of r = record { finished = r.finished; limit = r.opening.limit; place = place_of r.opening r.phase }
 
 -- refusal 1 alone; a finished reader is answered
-unfoldable pub look_of : Reader → Looked
-look_of r = cond (is_makeable r) (Seen (sight_of r)) (Refused unmakeable_state)
+unfoldable pub look_of : Reader → Result Sight Refusal
+look_of r = cond (is_makeable r) (Ok (sight_of r)) (Err unmakeable_state)

@@ -48,26 +48,20 @@ pub struct Sight {
     pub place: Place,
 }
 
-#[derive(Clone, Copy)]
-pub enum Looked {
-    Refused(Refusal),
-    Seen(Sight),
-}
-
 // A finished reader is answered, too. What no opening, feeding and closing makes is refused with 1.
-pub fn look(reader: Reader) -> Looked
+pub fn look(reader: Reader) -> Result<Sight, Refusal>
     ensures { result ≡ look_of reader }
 {
     if !reader.is_makeable() {
-        return Looked::Refused(Refusal::UNMAKEABLE_STATE);
+        return Err(Refusal::UNMAKEABLE_STATE);
     }
     let opening = reader.opening;
     let phase = reader.phase;
     let place = place_of(opening, phase);
-    Looked::Seen(Sight {
+    Ok(Sight {
         finished: reader.finished,
         limit: opening.limit,
-        place: place,
+        place,
     })
 }
 
@@ -95,10 +89,10 @@ fn place_of(opening: Opening, phase: Phase) -> Place
             let gathered = stored_in(buffer, opening.extent(ctype, length) - left);
             Place::InValue {
                 capsule_type: ctype,
-                length: length,
+                length,
                 to_come: left,
-                gathered: gathered,
-                buffer: buffer,
+                gathered,
+                buffer,
             }
         }
     }

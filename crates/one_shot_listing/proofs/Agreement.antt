@@ -1,16 +1,16 @@
 -- The listing agrees with the reader, and its header bytes are all bytes but values and tail. Assumes nothing.
 use Rattle.walks.proofs.Words.{◌≡◌, refl, ap, ◌∙◌, ℕ, ◌+◌, arith, Bool, false, List, [], ◌∷◌, length, length-append, length-drop}
-use Rattle.one_shot_listing.proofs.Terms.{Reader, plain, Capsule, Parts, parts, Reply, close, closed, run, parts_for, Book, book_close, end_of, reader_of, of_book, opening, reader_call, joined, AllRead, consumed_in, split_right, Open, closed_same, open_fresh, made_calls, counted, unfinished_grammar, header_bytes, ending_of, value_bytes, HeadersExactly, as_closed, AgreesWithReader}
+use Rattle.one_shot_listing.proofs.Terms.{Reader, plain, Capsule, Parts, parts, Reply, close, closed, run, parts_for, Book, book_close, end_of, reader_of, of_book, opening, reader_call, joined, AllRead, consumed_in, split_right, Open, closed_same, open_fresh, made_calls, counted, unfinished_grammar, header_bytes, ending_of, value_bytes, HeadersExactly, AgreesWithReader}
 use Rattle.one_shot_listing.proofs.Rounds.{accepted}
 
-same_end : (tail : List ℕ) → end_of tail ≡ as_closed (ending_of tail)
-unfolding end_of ending_of as_closed
+same_end : (tail : List ℕ) → end_of tail ≡ ending_of tail
+unfolding end_of ending_of
 same_end [] = refl
 same_end (b ∷ r) = refl
 
 -- a close of the state that a stream made
 closes_so : (k : Book) → Open k → k.mark ≡ false → parts_for k.opening k.stream ≡ parts k.stream
-    → (reader_call (of_book k) close).1 ≡ closed (as_closed (ending_of (parts k.stream).tail))
+    → (reader_call (of_book k) close).1 ≡ closed (ending_of (parts k.stream).tail)
 closes_so k o e g = ap (λ (x : Reader × Reply). x.1) (closed_same k o false e) ∙ (unfold book_close in rw (g, same_end))
 
 pub agrees_with_reader : AgreesWithReader

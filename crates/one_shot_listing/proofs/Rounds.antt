@@ -1,18 +1,21 @@
 -- One round of the cycle, over the grammar. Assumes nothing.
+use Rattle.std.specs.Prelude.{Some, None, Ok, Err}
+use Rattle.one_shot_listing.specs.Listing.{count_of}
+use Rattle.short_forms.specs.Short.{varint_of}
 use Rattle.walks.proofs.Words.{◌≡◌, sym, ℕ, suc, ◌+◌, ◌-◌, ◌≤◌, ◌<◌, arith, List, [], ◌∷◌, length, take, drop, length-drop, drop-drop, drop-length, length-take-le, le-leb, lt-leb}
-use Rattle.one_shot_listing.proofs.Terms.{buffer_too_long, Incomplete, Whole, read_varint, reads, plain, Stage, in_type, in_length, in_value, part, whole, capsule_at, parts, Sees, sees_type, sees_length, sees_value, sees_whole, complete, next, parts_is, parts_cut, parts_part, parts_nil, Clean, Truncated, Refused, Counted, header_bytes, ending_of, longest_buffer, listing_of, onwards, TypeRead, HeadRead}
+use Rattle.one_shot_listing.proofs.Terms.{buffer_too_long, read_varint, reads, plain, Stage, in_type, in_length, in_value, part, whole, capsule_at, parts, Sees, sees_type, sees_length, sees_value, sees_whole, complete, next, parts_is, parts_cut, parts_part, parts_nil, Clean, Truncated, header_bytes, ending_of, longest_buffer, listing_of, onwards, TypeRead, HeadRead}
 
 -- ---- by what stands at the front of the rest
 
 module _ (capsules headers : ℕ) where
-  nothing_left : Counted capsules headers Clean ≡ onwards capsules headers []
+  nothing_left : count_of capsules headers Clean ≡ onwards capsules headers []
   unfolding onwards header_bytes ending_of
   nothing_left =
       let a : capsules + 0 ≡ capsules = omega arith in
       let b : headers + 0 ≡ headers = omega arith in
       rw (parts_nil plain, a, b)
 
-  unfinished : (l : List ℕ) (x : Stage) → 0 < length l → Sees plain l (part x) → Counted capsules headers Truncated ≡ onwards capsules headers l
+  unfinished : (l : List ℕ) (x : Stage) → 0 < length l → Sees plain l (part x) → count_of capsules headers Truncated ≡ onwards capsules headers l
   unfolding onwards header_bytes ending_of
   unfinished [] x h v = absurd (let z : ⊥ = omega arith in z)
   unfinished (b ∷ l) x h v =
@@ -33,7 +36,7 @@ module _ (capsules headers : ℕ) where
 
 -- ---- at a place of the buffer
 
-pub field_within : (s : List ℕ) (at v k : ℕ) → at ≤ length s → read_varint (drop at s) ≡ Whole v k → (at < at + k) × (at + k ≤ length s)
+pub field_within : (s : List ℕ) (at v k : ℕ) → at ≤ length s → read_varint (drop at s) ≡ Some (varint_of v k) → (at < at + k) × (at + k ≤ length s)
 field_within s at v k h e = omega (arith, reads (drop at s) v k e, length-drop at s)
 
 module _ (s : List ℕ) (start : ℕ) (within : start ≤ length s) where
@@ -46,22 +49,22 @@ module _ (s : List ℕ) (start : ℕ) (within : start ≤ length s) where
       omega (arith, field_within s r.middle n r.size w.1 r.reads, r.ends)
 
   module _ (capsules headers : ℕ) where
-    pub at-end : start ≡ length s → Counted capsules headers Clean ≡ onwards capsules headers (drop start s)
+    pub at-end : start ≡ length s → count_of capsules headers Clean ≡ onwards capsules headers (drop start s)
     at-end e = rw (e, drop-length) (nothing_left capsules headers)
 
-    pub in_type_lem : start < length s → read_varint (drop start s) ≡ Incomplete → Counted capsules headers Truncated ≡ onwards capsules headers (drop start s)
+    pub in_type_lem : start < length s → read_varint (drop start s) ≡ None → count_of capsules headers Truncated ≡ onwards capsules headers (drop start s)
     in_type_lem h e = unfinished capsules headers (drop start s) in_type (omega (arith, length-drop start s)) (sees_type e)
 
-    pub in_length_lem : (at : ℕ) → TypeRead s start at → read_varint (drop at s) ≡ Incomplete → Counted capsules headers Truncated ≡ onwards capsules headers (drop start s)
+    pub in_length_lem : (at : ℕ) → TypeRead s start at → read_varint (drop at s) ≡ None → count_of capsules headers Truncated ≡ onwards capsules headers (drop start s)
     in_length_lem at r e =
         let d : drop r.size (drop start s) ≡ drop at s = rw (drop-drop, r.ends) in
         unfinished capsules headers (drop start s) (in_length r.ctype r.size) (omega (arith, type_within at r, length-drop start s)) (sees_length r.reads (rw d e))
 
     module _ (at n : ℕ) (r : HeadRead s start at n) where
-      length_reads : read_varint (drop r.type_read.size (drop start s)) ≡ Whole n r.size
+      length_reads : read_varint (drop r.type_read.size (drop start s)) ≡ Some (varint_of n r.size)
       length_reads = rw (drop-drop, ← r.type_read.ends) r.reads
 
-      pub in_value_lem : length s - at < n → Counted capsules headers Truncated ≡ onwards capsules headers (drop start s)
+      pub in_value_lem : length s - at < n → count_of capsules headers Truncated ≡ onwards capsules headers (drop start s)
       in_value_lem h =
           unfinished capsules headers (drop start s) (in_value r.type_read.ctype n (r.type_read.size + r.size))
           (omega (arith, head_within at n r, length-drop start s))
@@ -78,11 +81,11 @@ module _ (s : List ℕ) (start : ℕ) (within : start ≤ length s) where
 
 -- ---- the whole buffer
 
-pub accepted : (s : List ℕ) → length s ≤ longest_buffer → listing_of s ≡ Counted (length (parts s).capsules) (header_bytes (parts s).capsules) (ending_of (parts s).tail)
+pub accepted : (s : List ℕ) → length s ≤ longest_buffer → listing_of s ≡ Ok (count_of (length (parts s).capsules) (header_bytes (parts s).capsules) (ending_of (parts s).tail))
 unfolding listing_of
 accepted s h = rw (le-leb (length s) longest_buffer h)
 
-pub listed : (s : List ℕ) → length s ≤ longest_buffer → onwards 0 0 s ≡ listing_of s
+pub listed : (s : List ℕ) → length s ≤ longest_buffer → Ok (onwards 0 0 s) ≡ listing_of s
 unfolding onwards
 listed s h =
     let p = parts s in
@@ -90,6 +93,6 @@ listed s h =
     let b : 0 + header_bytes p.capsules ≡ header_bytes p.capsules = omega arith in
     rw (a, b) (sym (accepted s h))
 
-pub too_long : (s : List ℕ) → longest_buffer < length s → listing_of s ≡ Refused buffer_too_long
+pub too_long : (s : List ℕ) → longest_buffer < length s → listing_of s ≡ Err buffer_too_long
 unfolding listing_of
 too_long s h = rw (lt-leb (length s) longest_buffer h)

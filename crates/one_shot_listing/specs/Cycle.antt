@@ -1,16 +1,16 @@
 -- What the three functions of the cycle hand each other: contracts inside the crate.
-use Rattle.std.specs.Prelude.{ℕ, ◌+◌, ◌≤◌, ◌≡◌, List, length, drop}
-use Rattle.wire.specs.declared.varint.Varint.TheVariants.{Whole}
+use Rattle.one_shot_listing.specs.declared.Counted.{Counted}
+use Rattle.one_shot_listing.specs.Listing.{count_of}
+use Rattle.short_forms.specs.Short.{varint_of}
+use Rattle.std.specs.Prelude.{ℕ, ◌+◌, ◌≤◌, ◌≡◌, List, length, drop, Some}
 use Rattle.wire.specs.Varint.{read_varint}
 use Rattle.capsule.specs.Grammar.{parts}
-use Rattle.one_shot_listing.specs.declared.Listed.{Listed}
-use Rattle.one_shot_listing.specs.declared.Listed.TheVariants.{Counted}
 use Rattle.one_shot_listing.specs.Listing.{header_bytes, ending_of}
 
 -- the counts so far, and those of the rest
-unfoldable pub onwards : ℕ → ℕ → List ℕ → Listed
+unfoldable pub onwards : ℕ → ℕ → List ℕ → Counted
 onwards capsules headers rest =
-    Counted (capsules + length (parts rest).capsules) (headers + header_bytes (parts rest).capsules) (ending_of (parts rest).tail)
+    count_of (capsules + length (parts rest).capsules) (headers + header_bytes (parts rest).capsules) (ending_of (parts rest).tail)
 
 -- the counts of what stands before `start`
 pub record Before (s : List ℕ) (start capsules headers : ℕ) : Type 0 where
@@ -22,7 +22,7 @@ pub record Before (s : List ℕ) (start capsules headers : ℕ) : Type 0 where
 pub record TypeRead (s : List ℕ) (start at : ℕ) : Type 0 where
   pub ctype : ℕ
   pub size : ℕ
-  pub reads : read_varint (drop start s) ≡ Whole ctype size
+  pub reads : read_varint (drop start s) ≡ Some (varint_of ctype size)
   pub ends : at ≡ start + size
 
 -- a type from `start` on, and behind it a length n, which ends at `at`
@@ -30,5 +30,5 @@ pub record HeadRead (s : List ℕ) (start at n : ℕ) : Type 0 where
   pub middle : ℕ
   pub type_read : TypeRead s start middle
   pub size : ℕ
-  pub reads : read_varint (drop middle s) ≡ Whole n size
+  pub reads : read_varint (drop middle s) ≡ Some (varint_of n size)
   pub ends : at ≡ middle + size

@@ -1,11 +1,11 @@
 -- The one-shot listing, over the capsule grammar (document 01, "Capsule streams").
-use Rattle.std.specs.Prelude.{ℕ, ◌+◌, ◌-◌, cond, List, [], ◌∷◌, length, leb}
+use Rattle.refusals.specs.declared.Refusal.{Refusal}
+use Rattle.one_shot_listing.specs.declared.Counted.{Counted}
+use Rattle.std.specs.Prelude.{ℕ, ◌+◌, ◌-◌, cond, List, [], ◌∷◌, length, leb, Result, Ok, Err}
 use Rattle.refusals.specs.Numbers.{buffer_too_long}
 use Rattle.capsule.specs.Grammar.{Capsule, parts}
-use Rattle.one_shot_listing.specs.declared.Ending.{Ending}
-use Rattle.one_shot_listing.specs.declared.Ending.TheVariants.{Clean, Truncated}
-use Rattle.one_shot_listing.specs.declared.Listed.{Listed}
-use Rattle.one_shot_listing.specs.declared.Listed.TheVariants.{Refused, Counted}
+use Rattle.capsule.specs.declared.reader.Ending.{Ending}
+use Rattle.capsule.specs.declared.reader.Ending.TheVariants.{Clean, Truncated}
 
 -- "header bytes of those": a complete capsule's type and length fields (RFC 9297, section 3.2), all of its bytes but the value
 unfoldable pub header_bytes : List Capsule → ℕ
@@ -22,8 +22,11 @@ abbrev pub longest_buffer : ℕ
 longest_buffer = 4096
 
 -- above that, refusal 16
-unfoldable pub listing_of : List ℕ → Listed
+abbrev pub count_of : ℕ → ℕ → Ending → Counted
+count_of capsules headers ending = record { capsules = capsules; headers = headers; ending = ending }
+
+unfoldable pub listing_of : List ℕ → Result Counted Refusal
 listing_of s =
     cond (leb (length s) longest_buffer)
-    (Counted (length (parts s).capsules) (header_bytes (parts s).capsules) (ending_of (parts s).tail))
-    (Refused buffer_too_long)
+    (Ok (count_of (length (parts s).capsules) (header_bytes (parts s).capsules) (ending_of (parts s).tail)))
+    (Err buffer_too_long)

@@ -5,80 +5,72 @@ ghost use Rattle.std.specs.Prelude.{◌≡◌, drop};
 ghost use Rattle.one_shot_listing.specs.Listing.{listing_of};
 ghost use Rattle.one_shot_listing.specs.Cycle.{onwards, Before, TypeRead, HeadRead};
 
+use capsule::reader::Ending;
 use refusals::Refusal;
-use wire::varint::{Varint, read_varint};
+use wire::varint::read_varint;
 
-#[derive(Clone, Copy)]
-pub enum Ending {
-    Clean,
-    Truncated,
+// Complete capsules, the bytes of their type and length fields, and how the buffer ends.
+#[derive(Clone, Copy, Debug, PartialEq, Eq)]
+pub struct Counted {
+    pub capsules: usize,
+    pub headers: usize,
+    pub ending: Ending,
 }
 
-#[derive(Clone, Copy)]
-pub enum Listed {
-    Refused(Refusal),
-    // complete capsules, the bytes of their type and length fields, and how the buffer ends
-    Counted {
-        capsules: usize,
-        headers: usize,
-        ending: Ending,
-    },
-}
-
-impl Listed {
-    pub const LONGEST_BUFFER: usize = 4096;
-}
+// the longest buffer that is listed
+pub const LONGEST_BUFFER: usize = 4096;
 
 // Counts the complete capsules of a buffer and their header bytes.
 #[tactic(auto, using(crate::proofs::Rounds::listed, crate::proofs::Rounds::too_long))]
-pub fn list(buffer: &[u8]) -> Listed
+pub fn list(buffer: &[u8]) -> Result<Counted, Refusal>
     ensures { result ≡ listing_of buffer.now }
 {
-    if buffer.len() > Listed::LONGEST_BUFFER {
-        return Listed::Refused(Refusal::BUFFER_TOO_LONG);
+    if buffer.len() > LONGEST_BUFFER {
+        return Err(Refusal::BUFFER_TOO_LONG);
     }
-    read_type(buffer, 0, 0, 0)
+    Ok(read_type(buffer, 0, 0, 0))
 }
 
-// The reading goes round, type to length to value to the next type. A capsule starts at `start`; `capsules` and `headers` count what
-// stands before it.
+// The reading goes round, type to length to value to the next type: document 01 names the form, three functions in a
+// cycle. A capsule starts at `start`; `capsules` and `headers` count what stands before it. `Before` ties the counts
+// to the bytes before `start`; a struct with it as its invariant would have to carry the buffer.
 #[cycle(listing)]
-fn read_type(s: &[u8], start: usize, capsules: usize, headers: usize) -> Listed
+fn read_type(s: &[u8], start: usize, capsules: usize, headers: usize) -> Counted
     requires { Before s.now start capsules headers }
     ensures { result ≡ onwards capsules headers (drop start s.now) }
 {
     match read_varint(&s[start..]) {
-        Varint::Incomplete => {
+        None => {
             if start == s.len() {
-                return Listed::Counted {
-                    capsules: capsules,
-                    headers: headers,
+                return Counted {
+                    capsules,
+                    headers,
                     ending: Ending::Clean,
                 };
             }
-            Listed::Counted {
-                capsules: capsules,
-                headers: headers,
+            Counted {
+                capsules,
+                headers,
                 ending: Ending::Truncated,
             }
         }
-        Varint::Whole { value: _, size } => read_length(s, start, start + size, capsules, headers),
+        Some(ctype) => read_length(s, start, start + ctype.size, capsules, headers),
     }
 }
 
 // Its type ends at `at`.
 #[cycle(listing)]
-fn read_length(s: &[u8], start: usize, at: usize, capsules: usize, headers: usize) -> Listed
+fn read_length(s: &[u8], start: usize, at: usize, capsules: usize, headers: usize) -> Counted
     requires { Before s.now start capsules headers × TypeRead s.now start at }
     ensures { result ≡ onwards capsules headers (drop start s.now) }
 {
     match read_varint(&s[at..]) {
-        Varint::Incomplete => Listed::Counted {
-            capsules: capsules,
-            headers: headers,
+        None => Counted {
+            capsules,
+            headers,
             ending: Ending::Truncated,
         },
-        Varint::Whole { value, size } => read_value(s, start, at + size, value, capsules, headers),
+        Some(length) => read_value(s, start, at + length.size, length.value, capsules, headers),
     }
 }
 
@@ -91,15 +83,15 @@ fn read_value(
     length: u64,
     capsules: usize,
     headers: usize,
-) -> Listed
+) -> Counted
     requires { Before s.now start capsules headers × HeadRead s.now start at length }
     ensures { result ≡ onwards capsules headers (drop start s.now) }
 {
     let room = (s.len() - at) as u64;
     if room < length {
-        return Listed::Counted {
-            capsules: capsules,
-            headers: headers,
+        return Counted {
+            capsules,
+            headers,
             ending: Ending::Truncated,
         };
     }

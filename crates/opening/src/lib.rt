@@ -8,13 +8,13 @@ ghost use Rattle.opening.specs.Lent.{lent_verdict};
 
 use refusals::Refusal;
 
-#[derive(Clone, Copy)]
+#[derive(Clone, Copy, Debug, PartialEq, Eq)]
 pub enum Role {
     Endpoint,
     Intermediary,
 }
 
-#[derive(Clone, Copy)]
+#[derive(Clone, Copy, Debug, PartialEq, Eq)]
 pub struct Opening {
     pub role: Role,
     // the longest DATAGRAM that is delivered
@@ -25,7 +25,7 @@ pub struct Opening {
     pub addresses: bool,
 }
 
-#[derive(Clone, Copy)]
+#[derive(Clone, Copy, Debug, PartialEq, Eq)]
 pub enum Kind {
     Datagram,
     Address,
@@ -33,7 +33,7 @@ pub enum Kind {
 }
 
 // What is said of a capsule that has ended: its length, and before it its type unless it is a DATAGRAM.
-#[derive(Clone, Copy)]
+#[derive(Clone, Copy, Debug, PartialEq, Eq)]
 pub enum Report {
     Delivered { length: u64 },
     Dropped { length: u64 },
@@ -43,40 +43,23 @@ pub enum Report {
     Malformed { ctype: u64, length: u64 },
 }
 
-// What stands before a call: its refusal, or none.
-#[derive(Clone, Copy)]
-pub enum Verdict {
-    Accepted,
-    Refused(Refusal),
-}
-
 impl Opening {
     pub const MAX_LIMIT: u64 = 65535;
 
     // Whether the bytes of a capsule of this type go to the output.
+    #[tactic(auto, unfolding(crate::specs::Kinds::forwards, crate::specs::Kinds::forwards_by))]
     pub fn forwards(self, ctype: u64) -> bool
         ensures { result ≡ forwards self ctype }
     {
-        let role = self.role;
-        match role {
-            Role::Endpoint => false,
-            Role::Intermediary => match self.kind(ctype) {
-                Kind::Datagram => false,
-                Kind::Address => false,
-                Kind::Unknown => true,
-            },
-        }
+        self.role == Role::Intermediary && self.kind(ctype) == Kind::Unknown
     }
 
     // Whether the value of such a capsule goes to the gathering buffer.
+    #[tactic(auto, unfolding(crate::specs::Kinds::gathers, crate::specs::Kinds::gathers_by))]
     pub fn gathers(self, ctype: u64, length: u64) -> bool
         ensures { result ≡ gathers self ctype length }
     {
-        match self.kind(ctype) {
-            Kind::Datagram => length <= self.limit,
-            Kind::Address => false,
-            Kind::Unknown => false,
-        }
+        self.kind(ctype) == Kind::Datagram && length <= self.limit
     }
 
     // Whether the value of such a capsule goes to the second buffer.
@@ -84,11 +67,7 @@ impl Opening {
     pub fn keeps(self, ctype: u64, length: u64) -> bool
         ensures { result ≡ keeps self ctype length }
     {
-        match self.kind(ctype) {
-            Kind::Datagram => false,
-            Kind::Address => length <= Kind::LONGEST_ADDRESS_VALUE,
-            Kind::Unknown => false,
-        }
+        self.kind(ctype) == Kind::Address && length <= Kind::LONGEST_ADDRESS_VALUE
     }
 
     // How many value bytes complete such a capsule.
@@ -96,86 +75,60 @@ impl Opening {
     pub fn extent(self, ctype: u64, length: u64) -> u64
         ensures { result ≡ extent_of self ctype length }
     {
-        match self.kind(ctype) {
-            Kind::Datagram => length,
-            Kind::Address => {
-                if length <= Kind::LONGEST_ADDRESS_VALUE {
-                    return length;
-                }
-                0
-            }
-            Kind::Unknown => length,
+        if self.kind(ctype) == Kind::Address && length > Kind::LONGEST_ADDRESS_VALUE {
+            return 0;
         }
+        length
     }
 
+    #[tactic(auto, unfolding(crate::specs::Kinds::kind_of))]
     pub fn kind(self, ctype: u64) -> Kind
         ensures { result ≡ kind_of self ctype }
     {
-        if ctype == Kind::DATAGRAM {
-            return Kind::Datagram;
+        if ctype == Kind::DATAGRAM || (self.draft && ctype == Kind::DRAFT_DATAGRAM) {
+            Kind::Datagram
+        } else if self.takes_addresses(ctype) {
+            Kind::Address
+        } else {
+            Kind::Unknown
         }
-        if self.takes_addresses(ctype) {
-            return Kind::Address;
-        }
-        if self.draft {
-            if ctype == Kind::DRAFT_DATAGRAM {
-                return Kind::Datagram;
-            }
-        }
-        Kind::Unknown
     }
 
-    // What is reported of a capsule of this type and length when it ends; the value of an address capsule is still to be judged.
+    // What is reported of a capsule of this type and length when it ends; the value of an address capsule is still to
+    // be judged.
     #[tactic(auto, unfolding(crate::specs::Kinds::report_of, crate::specs::Kinds::report_by, addresses::specs::Addresses::longest_address_value))]
     pub fn report(self, ctype: u64, length: u64) -> Report
         ensures { result ≡ report_of self ctype length }
     {
-        let kind = self.kind(ctype);
-        match kind {
-            Kind::Datagram => {
-                if length <= self.limit {
-                    return Report::Delivered { length };
-                }
-                Report::Dropped { length }
-            }
-            Kind::Address => {
-                if length <= Kind::LONGEST_ADDRESS_VALUE {
-                    return Report::AddressDelivered { ctype, length };
-                }
-                Report::Malformed { ctype, length }
-            }
-            Kind::Unknown => {
-                let role = self.role;
-                match role {
-                    Role::Endpoint => Report::Skipped { ctype, length },
-                    Role::Intermediary => Report::Passed { ctype, length },
-                }
-            }
+        match self.kind(ctype) {
+            Kind::Datagram if length <= self.limit => Report::Delivered { length },
+            Kind::Datagram => Report::Dropped { length },
+            Kind::Address if length <= Kind::LONGEST_ADDRESS_VALUE => Report::AddressDelivered {
+                ctype,
+                length,
+            },
+            Kind::Address => Report::Malformed { ctype, length },
+            Kind::Unknown => match self.role {
+                Role::Endpoint => Report::Skipped { ctype, length },
+                Role::Intermediary => Report::Passed { ctype, length },
+            },
         }
     }
 
     // Whether this type is an address capsule's, and those are taken.
+    #[tactic(auto, unfolding(addresses::specs::Addresses::is_address_type))]
     fn takes_addresses(self, ctype: u64) -> bool
         ensures { result ≡ opted self && is_address_type ctype }
     {
-        if !self.opted() {
-            return false;
-        }
-        if ctype == Kind::DATAGRAM {
-            return false;
-        }
-        ctype <= Kind::ROUTE_ADVERTISEMENT
+        self.opted() && ctype != Kind::DATAGRAM && ctype <= Kind::ROUTE_ADVERTISEMENT
     }
 
     // Address capsules are for endpoints that opted in.
+    #[tactic(auto, unfolding(crate::specs::Kinds::opted, crate::specs::Kinds::opted_by))]
     fn opted(self) -> bool
         ensures { result ≡ opted self }
     {
-        let role = self.role;
-        match role {
-            Role::Endpoint => self.addresses,
-            Role::Intermediary => false,
-        }
+        self.role == Role::Endpoint && self.addresses
     }
 }
 
@@ -201,57 +154,25 @@ pub fn lent_verdict(
     gathering: usize,
     addresses: usize,
     output: usize,
-) -> Verdict
+) -> Result<(), Refusal>
     ensures { result ≡ lent_verdict op piece gathering addresses output }
 {
     if (gathering as u64) < op.limit {
-        return Verdict::Refused(Refusal::GATHERING_TOO_SHORT);
+        return Err(Refusal::GATHERING_TOO_SHORT);
     }
-    let role = op.role;
-    match role {
-        Role::Endpoint => {
-            if !op.addresses {
-                return Verdict::Accepted;
-            }
-            if (addresses as u64) < Kind::LONGEST_ADDRESS_VALUE {
-                return Verdict::Refused(Refusal::ADDRESSES_TOO_SHORT);
-            }
-            Verdict::Accepted
-        }
-        Role::Intermediary => {
-            if output < 8 {
-                return Verdict::Refused(Refusal::OUTPUT_TOO_SHORT);
-            }
-            if output - 8 < piece {
-                return Verdict::Refused(Refusal::OUTPUT_TOO_SHORT);
-            }
-            Verdict::Accepted
-        }
+    if op.opted() && (addresses as u64) < Kind::LONGEST_ADDRESS_VALUE {
+        return Err(Refusal::ADDRESSES_TOO_SHORT);
     }
+    if op.role == Role::Intermediary && (output < 8 || output - 8 < piece) {
+        return Err(Refusal::OUTPUT_TOO_SHORT);
+    }
+    Ok(())
 }
 
 // Whether nothing may follow.
+#[tactic(auto, unfolding(crate::specs::Kinds::finishes))]
 pub fn is_last_report(report: Report) -> bool
     ensures { result ≡ finishes report }
 {
-    match report {
-        Report::Delivered { length: _ } => false,
-        Report::Dropped { length: _ } => false,
-        Report::Skipped {
-            ctype: _,
-            length: _,
-        } => false,
-        Report::Passed {
-            ctype: _,
-            length: _,
-        } => false,
-        Report::AddressDelivered {
-            ctype: _,
-            length: _,
-        } => false,
-        Report::Malformed {
-            ctype: _,
-            length: _,
-        } => true,
-    }
+    matches!(report, Report::Malformed { .. })
 }

@@ -1,17 +1,18 @@
 -- What a feeding is to do. Assumes nothing.
+use Rattle.std.specs.Prelude.{Option, Some, None}
 use Rattle.walks.proofs.Words.{◌≡◌, refl, ℕ, ◌+◌, ◌-◌, ◌≤◌, ◌<◌, arith, Bool, true, false, cond, ◌&&◌, ◌||◌, List, ◌++◌, length, take, drop, length-append, length-drop, take_all, leb, ltb, eqb, le-leb, lt-leb, leb-true, leb-false}
-use Rattle.planning.proofs.Terms.{zero_one, no_true, Varint, Incomplete, Whole, Partial, VarintTaken, Impossible, More, Ends, largest, read_varint, held_bytes, is_partial, taken_of, take_varint, length-bytes_of, reads, parted, starts_le, Role, Endpoint, Intermediary, Kind, Datagram, Address, Unknown, Opening, Plan, Phase, InType, InLength, InValue, Nothing, Capsule, longest_address_value, opted, kind_of, extent_by, extent_of, report_of, forwards_by, forwards, gathers_by, gathers, keeps_by, keeps, no_bytes, is_makeable_phase, plan_value, plan_head, plan_length, plan_type, plan_of, held_of}
+use Rattle.planning.proofs.Terms.{zero_one, no_true, Varint, Partial, VarintTaken, Impossible, More, Ends, largest, read_varint, held_bytes, is_partial, taken_of, take_varint, length-bytes_of, reads, parted, starts_le, Role, Endpoint, Intermediary, Kind, Datagram, Address, Unknown, Opening, Plan, Phase, InType, InLength, InValue, longest_address_value, opted, kind_of, extent_by, extent_of, report_of, forwards_by, forwards, gathers_by, gathers, keeps_by, keeps, no_bytes, is_makeable_phase, plan_value, plan_head, plan_length, plan_type, plan_of, held_of}
 
 -- ---- a varint that goes on
 
 -- one that ends has used no more bytes than there are
 module _ (part : Partial) (s : List ℕ) (used v : ℕ) where
-  taken-within : (r : Varint) → read_varint (held_bytes part ++ s) ≡ r → taken_of part.have (held_bytes part ++ s) r ≡ Ends used v → used ≤ length s
+  taken-within : (r : Option Varint) → read_varint (held_bytes part ++ s) ≡ r → taken_of part.have (held_bytes part ++ s) r ≡ Ends used v → used ≤ length s
   unfolding taken_of held_bytes
-  taken-within Incomplete e d = zero_one (cc)
-  taken-within (Whole n k) e d =
-      let is_used : k - part.have ≡ used = cc in
-      omega (arith, (reads (held_bytes part ++ s) n k e).fits, length-append (held_bytes part) s, length-bytes_of part.have part.raw)
+  taken-within None e d = zero_one (cc)
+  taken-within (Some read) e d =
+      let is_used : read.size - part.have ≡ used = cc in
+      omega (arith, (reads (held_bytes part ++ s) read.value read.size e).fits, length-append (held_bytes part) s, length-bytes_of part.have part.raw)
 
   pub ends-within : take_varint part s ≡ Ends used v → used ≤ length s
   unfolding take_varint
@@ -29,12 +30,12 @@ rest_of p at = take_all (length p - at) (drop at p) (omega (arith, length-drop a
 
 module _ (op : Opening) (p : List ℕ) (at t n left : ℕ) where
   pub value-ends : left ≤ length p - at
-      → plan_value op p at t n left ≡ record { next = InType no_bytes; consumed = at + left; ended = Capsule (report_of op t n); forward = forwards op t; store = gathers op t n; keep = keeps op t n; at = at; place = extent_of op t n - left }
+      → plan_value op p at t n left ≡ record { next = InType no_bytes; consumed = at + left; ended = Some (report_of op t n); forward = forwards op t; store = gathers op t n; keep = keeps op t n; at = at; place = extent_of op t n - left }
   unfolding plan_value
   value-ends h = rw (le-leb left (length p - at) h)
 
   pub value_goes : length p - at < left
-      → plan_value op p at t n left ≡ record { next = InValue t n (left - (length p - at)); consumed = length p; ended = Nothing; forward = forwards op t; store = gathers op t n; keep = keeps op t n; at = at; place = extent_of op t n - left }
+      → plan_value op p at t n left ≡ record { next = InValue t n (left - (length p - at)); consumed = length p; ended = None; forward = forwards op t; store = gathers op t n; keep = keeps op t n; at = at; place = extent_of op t n - left }
   unfolding plan_value
   value_goes h = rw (lt-leb left (length p - at) h)
 

@@ -1,5 +1,5 @@
 -- Where a stream is in its capsule, and what a feeding is to do, for every state and every piece.
-use Rattle.std.specs.Prelude.{ℕ, ◌+◌, ◌-◌, Bool, false, cond, ◌&&◌, List, length, drop, leb, ltb}
+use Rattle.std.specs.Prelude.{ℕ, ◌+◌, ◌-◌, Bool, false, cond, ◌&&◌, List, length, drop, leb, ltb, Some, None}
 use Rattle.wire.specs.declared.partial.Partial.{Partial}
 use Rattle.wire.specs.declared.partial.VarintTaken.TheVariants.{Impossible, More, Ends}
 use Rattle.wire.specs.Varint.{largest}
@@ -8,7 +8,6 @@ use Rattle.opening.specs.declared.Opening.{Opening}
 use Rattle.planning.specs.declared.Plan.{Plan}
 use Rattle.planning.specs.declared.Phase.{Phase}
 use Rattle.planning.specs.declared.Phase.TheVariants.{InType, InLength, InValue}
-use Rattle.planning.specs.declared.Ended.TheVariants.{Nothing, Capsule}
 use Rattle.opening.specs.Kinds.{extent_of, report_of, forwards, gathers, keeps}
 
 abbrev pub no_bytes : Partial
@@ -26,13 +25,13 @@ is_makeable_phase op (InValue t n left) = leb t largest && (leb n largest && (lt
 unfoldable pub plan_value : Opening → List ℕ → ℕ → ℕ → ℕ → ℕ → Plan
 plan_value op p at t n left =
     cond (leb left (length p - at))
-    (record { next = InType no_bytes; consumed = at + left; ended = Capsule (report_of op t n); forward = forwards op t; store = gathers op t n; keep = keeps op t n; at = at; place = extent_of op t n - left })
-    (record { next = InValue t n (left - (length p - at)); consumed = length p; ended = Nothing; forward = forwards op t; store = gathers op t n; keep = keeps op t n; at = at; place = extent_of op t n - left })
+    (record { next = InType no_bytes; consumed = at + left; ended = Some (report_of op t n); forward = forwards op t; store = gathers op t n; keep = keeps op t n; at = at; place = extent_of op t n - left })
+    (record { next = InValue t n (left - (length p - at)); consumed = length p; ended = None; forward = forwards op t; store = gathers op t n; keep = keeps op t n; at = at; place = extent_of op t n - left })
 
 -- the piece ends before the value
 unfoldable pub plan_head : Phase → ℕ → Bool → Plan
 plan_head next consumed forward =
-    record { next = next; consumed = consumed; ended = Nothing; forward = forward; store = false; keep = false; at = 0; place = 0 }
+    record { next = next; consumed = consumed; ended = None; forward = forward; store = false; keep = false; at = 0; place = 0 }
 
 -- the length is in the piece from `at` on, after the part of it that came before
 unfoldable pub plan_length : Opening → List ℕ → ℕ → ℕ → Partial → Plan

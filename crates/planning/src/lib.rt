@@ -9,12 +9,12 @@ ghost use Rattle.planning.specs.Reaching.{Reaches};
 ghost use Rattle.planning.specs.Headers.{short_header, first_header};
 
 use opening::{Opening, Report};
-use short_forms::{ShortForm, read_short};
+use short_forms::read_short;
 use wire::partial::{Partial, VarintTaken};
 use wire::varint::Varint;
 
 // How far the capsule at the end of the stream has come.
-#[derive(Clone, Copy)]
+#[derive(Clone, Copy, Debug, PartialEq, Eq)]
 pub enum Phase {
     // in its type
     InType(Partial),
@@ -24,18 +24,11 @@ pub enum Phase {
     InValue { ctype: u64, length: u64, left: u64 },
 }
 
-// What ended in a feeding.
-#[derive(Clone, Copy)]
-pub enum Ended {
-    Nothing,
-    Capsule(Report),
-}
-
-#[derive(Clone, Copy)]
+#[derive(Clone, Copy, Debug, PartialEq, Eq)]
 pub struct Plan {
     pub next: Phase,
     pub consumed: usize,
-    pub ended: Ended,
+    pub ended: Option<Report>,
     // the held bytes of the type and the consumed ones go to the output
     pub forward: bool,
     // the consumed bytes from `at` on go to the gathering buffer, from `place` on
@@ -46,8 +39,8 @@ pub struct Plan {
     pub place: u64,
 }
 
-// What a piece comes to before the value.
-#[derive(Clone, Copy)]
+// What a piece comes to before the value: two outcomes, of which neither is an error.
+#[derive(Clone, Copy, Debug, PartialEq, Eq)]
 pub enum Reached {
     // it ends there
     Stops(Plan),
@@ -60,41 +53,40 @@ pub enum Reached {
     },
 }
 
-// What stands at the front of a piece: a header that is short and whole, with where its value starts, or any other bytes.
-#[derive(Clone, Copy)]
-pub enum Header {
-    Long,
-    Short { at: usize, ctype: u64, size: u64 },
+// A header that is short and whole at the front of a piece: where its value starts, its type, and the value's length.
+#[derive(Clone, Copy, Debug, PartialEq, Eq)]
+pub struct Header {
+    pub at: usize,
+    pub ctype: u64,
+    pub size: u64,
 }
 
 // A type of one byte and a length of one or two, as most capsules have, at the front of a piece.
 #[tactic(auto, using(crate::proofs::Reaching::header_few, crate::proofs::Reaching::header_type))]
-pub fn short_header(piece: &[u8]) -> Header
+pub fn short_header(piece: &[u8]) -> Option<Header>
     ensures { result ≡ short_header piece.now }
 {
     if piece.len() < 3 {
-        return Header::Long;
+        return None;
     }
-    let ctype = wide(piece[0]);
+    let ctype = u64::from(piece[0]);
     if ctype > Varint::MAX_OF_1 {
-        return Header::Long;
+        return None;
     }
-    match read_short(&piece[1..]) {
-        ShortForm::None => Header::Long,
-        ShortForm::Found { value, size } => Header::Short {
-            at: 1 + size,
-            ctype: ctype,
-            size: value,
-        },
-    }
+    let size = read_short(&piece[1..])?;
+    Some(Header {
+        at: 1 + size.size,
+        ctype,
+        size: size.value,
+    })
 }
 
 // The value is planned in one place, so that the plan stays in registers.
+#[tactic(auto, unfolding(crate::specs::Reaching::plan_by, crate::specs::Reaching::Within))]
 pub fn plan_of(op: Opening, piece: &[u8], phase: Phase) -> Plan
     ensures { result ≡ plan_of op piece.now phase }
 {
-    let reached = reach(op, piece, phase);
-    match reached {
+    match reach(op, piece, phase) {
         Reached::Stops(plan) => plan,
         Reached::Value {
             at,
@@ -106,17 +98,13 @@ pub fn plan_of(op: Opening, piece: &[u8], phase: Phase) -> Plan
 }
 
 // The bytes of a type that is not complete.
+#[tactic(auto, unfolding(crate::specs::Plans::held_of))]
 pub fn held_of(phase: Phase) -> Partial
     ensures { result ≡ held_of phase }
 {
     match phase {
         Phase::InType(part) => part,
-        Phase::InLength { ctype: _, part: _ } => Partial::EMPTY,
-        Phase::InValue {
-            ctype: _,
-            length: _,
-            left: _,
-        } => Partial::EMPTY,
+        _ => Partial::EMPTY,
     }
 }
 
@@ -125,30 +113,17 @@ pub fn held_of(phase: Phase) -> Partial
 pub fn is_makeable_value(op: Opening, ctype: u64, length: u64, left: u64) -> bool
     ensures { result ≡ is_makeable_phase op (InValue ctype length left) }
 {
-    if ctype > Varint::MAX {
-        return false;
-    }
-    if length > Varint::MAX {
-        return false;
-    }
-    if left == 0 {
-        return false;
-    }
-    left <= op.extent(ctype, length)
+    ctype <= Varint::MAX && length <= Varint::MAX && (1..=op.extent(ctype, length)).contains(&left)
 }
 
 // Whether some stream comes so far.
+#[tactic(auto, unfolding(crate::specs::Plans::is_makeable_phase, wire::specs::Varint::largest))]
 pub fn is_makeable_phase(op: Opening, phase: Phase) -> bool
     ensures { result ≡ is_makeable_phase op phase }
 {
     match phase {
         Phase::InType(part) => part.is_possible(),
-        Phase::InLength { ctype, part } => {
-            if ctype > Varint::MAX {
-                return false;
-            }
-            part.is_possible()
-        }
+        Phase::InLength { ctype, part } => ctype <= Varint::MAX && part.is_possible(),
         Phase::InValue {
             ctype,
             length,
@@ -157,12 +132,7 @@ pub fn is_makeable_phase(op: Opening, phase: Phase) -> bool
     }
 }
 
-fn wide(b: u8) -> u64
-    ensures { result ≡ b }
-{
-    b as u64
-}
-
+#[tactic(auto, unfolding(crate::specs::Plans::plan_of, crate::specs::Reaching::plan_by, crate::specs::Reaching::Within))]
 fn reach(op: Opening, piece: &[u8], phase: Phase) -> Reached
     ensures { Reaches op piece.now result (plan_of op piece.now phase) }
 {
@@ -177,14 +147,16 @@ fn reach(op: Opening, piece: &[u8], phase: Phase) -> Reached
             left,
         } => Reached::Value {
             at: 0,
-            ctype: ctype,
-            size: size,
+            ctype,
+            size,
             left: left,
         },
     }
 }
 
-// The value is in the piece from `at` on, and `left` bytes of it are to come.
+// The value is in the piece from `at` on, and `left` bytes of it are to come. The piece and a place in it: a plan
+// speaks of the piece's bytes by their places.
+#[tactic(auto, unfolding(crate::specs::Plans::plan_value))]
 fn plan_value(op: Opening, piece: &[u8], at: usize, ctype: u64, size: u64, left: u64) -> Plan
     requires { at ≤ length piece.now }
     ensures { result ≡ plan_value op piece.now at ctype size left }
@@ -192,20 +164,18 @@ fn plan_value(op: Opening, piece: &[u8], at: usize, ctype: u64, size: u64, left:
     let forward = op.forwards(ctype);
     let store = op.gathers(ctype, size);
     let keep = op.keeps(ctype, size);
-    let extent = op.extent(ctype, size);
-    let place = less(extent, left);
+    let place = op.extent(ctype, size).saturating_sub(left);
     let room = (piece.len() - at) as u64;
     if left <= room {
-        let report = op.report(ctype, size);
         return Plan {
             next: Phase::InType(Partial::EMPTY),
             consumed: at + (left as usize),
-            ended: Ended::Capsule(report),
-            forward: forward,
-            store: store,
-            keep: keep,
-            at: at,
-            place: place,
+            ended: Some(op.report(ctype, size)),
+            forward,
+            store,
+            keep,
+            at,
+            place,
         };
     }
     Plan {
@@ -215,12 +185,12 @@ fn plan_value(op: Opening, piece: &[u8], at: usize, ctype: u64, size: u64, left:
             left: left - room,
         },
         consumed: piece.len(),
-        ended: Ended::Nothing,
-        forward: forward,
-        store: store,
-        keep: keep,
-        at: at,
-        place: place,
+        ended: None,
+        forward,
+        store,
+        keep,
+        at,
+        place,
     }
 }
 
@@ -229,69 +199,60 @@ fn reach_in_type(op: Opening, piece: &[u8], part: Partial) -> Reached
     ensures { Reaches op piece.now result (plan_type op piece.now part) }
 {
     match first_header(piece, part) {
-        Header::Long => reach_by_type(op, piece, part),
-        Header::Short { at, ctype, size } => {
-            let most = op.extent(ctype, size);
-            Reached::Value {
-                at: at,
-                ctype: ctype,
-                size: size,
-                left: most,
-            }
-        }
+        None => reach_by_type(op, piece, part),
+        Some(header) => Reached::Value {
+            at: header.at,
+            ctype: header.ctype,
+            size: header.size,
+            left: op.extent(header.ctype, header.size),
+        },
     }
 }
 
 // The length stands in the piece from `at` on, behind the part of it that came before.
+// The part comes as its two numbers: called at two places, a struct would go through memory.
+#[tactic(auto, unfolding(crate::specs::Plans::plan_length, crate::specs::Reaching::plan_by, crate::specs::Reaching::Within))]
 fn reach_by_length(op: Opening, piece: &[u8], at: usize, ctype: u64, have: u8, raw: u64) -> Reached
     requires { at ≤ length piece.now }
     ensures { Reaches op piece.now result (plan_length op piece.now at ctype (partial have raw)) }
 {
-    let part = Partial {
-        have: have,
-        raw: raw,
-    };
-    let taken = part.take(&piece[at..]);
-    match taken {
+    let part = Partial { have, raw };
+    match part.take(&piece[at..]) {
         VarintTaken::Impossible => Reached::Stops(plan_head(
             Phase::InLength { ctype, part },
             0,
             false,
         )),
-        VarintTaken::More(more) => {
-            let forward = op.forwards(ctype);
-            Reached::Stops(plan_head(Phase::InLength { ctype, part: more }, piece.len(), forward))
-        }
-        VarintTaken::Ends { used, value } => {
-            let most = op.extent(ctype, value);
-            Reached::Value {
-                at: at + used,
-                ctype: ctype,
-                size: value,
-                left: most,
-            }
-        }
+        VarintTaken::More(more) => Reached::Stops(plan_head(
+            Phase::InLength { ctype, part: more },
+            piece.len(),
+            op.forwards(ctype),
+        )),
+        VarintTaken::Ends { used, value } => Reached::Value {
+            at: at + used,
+            ctype,
+            size: value,
+            left: op.extent(ctype, value),
+        },
     }
 }
 
 // The same where no byte of the type has come before.
-fn first_header(piece: &[u8], part: Partial) -> Header
+#[tactic(auto, unfolding(crate::specs::Headers::first_header))]
+fn first_header(piece: &[u8], part: Partial) -> Option<Header>
     ensures { result ≡ first_header part piece.now }
 {
-    if part.have != 0 {
-        return Header::Long;
-    }
-    if part.raw != 0 {
-        return Header::Long;
+    if part != Partial::EMPTY {
+        return None;
     }
     short_header(piece)
 }
 
+#[tactic(auto, unfolding(crate::specs::Plans::plan_type, crate::specs::Reaching::plan_by, crate::specs::Reaching::Within))]
 fn reach_by_type(op: Opening, piece: &[u8], part: Partial) -> Reached
     ensures { Reaches op piece.now result (plan_type op piece.now part) }
 {
-    let taken = part.take(piece);
-    match taken {
+    match part.take(piece) {
         VarintTaken::Impossible => Reached::Stops(plan_head(Phase::InType(part), 0, false)),
         VarintTaken::More(more) => Reached::Stops(plan_head(
             Phase::InType(more),
@@ -303,27 +264,18 @@ fn reach_by_type(op: Opening, piece: &[u8], part: Partial) -> Reached
 }
 
 // The piece ends before the value.
+#[tactic(auto, unfolding(crate::specs::Plans::plan_head))]
 fn plan_head(next: Phase, consumed: usize, forward: bool) -> Plan
     ensures { result ≡ plan_head next consumed forward }
 {
     Plan {
-        next: next,
-        consumed: consumed,
-        ended: Ended::Nothing,
-        forward: forward,
+        next,
+        consumed,
+        ended: None,
+        forward,
         store: false,
         keep: false,
         at: 0,
         place: 0,
     }
-}
-
-// What is left of a, at least 0.
-fn less(a: u64, b: u64) -> u64
-    ensures { result ≡ a - b }
-{
-    if a < b {
-        return 0;
-    }
-    a - b
 }

@@ -1,14 +1,11 @@
 -- What a feeding and a clean close answer, in numbers.
-use Rattle.std.specs.Prelude.{ℕ}
+use Rattle.capsule.specs.declared.reader.Ending.{Ending}
+use Rattle.capsule.specs.declared.reader.Ending.TheVariants.{Clean, Truncated}
+use Rattle.capsule.specs.declared.reader.Advance.{Advance}
+use Rattle.std.specs.Prelude.{ℕ, Option, Some, None, Result, Ok, Err}
 use Rattle.refusals.specs.declared.Refusal.{Refusal}
 use Rattle.opening.specs.declared.Report.{Report}
 use Rattle.opening.specs.declared.Report.TheVariants.{Delivered, Dropped, Skipped, Passed, AddressDelivered, Malformed}
-use Rattle.planning.specs.declared.Ended.{Ended}
-use Rattle.planning.specs.declared.Ended.TheVariants.{Nothing, Capsule}
-use Rattle.capsule.specs.declared.reader.FeedAnswer.{FeedAnswer}
-use Rattle.capsule.specs.declared.reader.FeedAnswer.TheVariants as fed_as
-use Rattle.capsule.specs.declared.reader.CloseAnswer.{CloseAnswer}
-use Rattle.capsule.specs.declared.reader.CloseAnswer.TheVariants as closed_as
 use Rattle.opening.specs.Kinds.{length_of}
 use Rattle.http_errors.specs.Ties.{close_error, report_error}
 use Rattle.reader_answers.specs.declared.reader.FedAnswer.{FedAnswer}
@@ -37,21 +34,21 @@ fed_report consumed written report =
     record { refusal = 0; consumed = consumed; written = written; report = report_number report; ctype = type_of report; length = length_of report; error = error_number (report_error report) }
 
 -- 0 where no capsule ended
-unfoldable pub fed_took : ℕ → ℕ → Ended → FedAnswer
-fed_took consumed written Nothing = record { refusal = 0; consumed = consumed; written = written; report = 0; ctype = 0; length = 0; error = 0 }
-fed_took consumed written (Capsule report) = fed_report consumed written report
+unfoldable pub fed_took : ℕ → ℕ → Option Report → FedAnswer
+fed_took consumed written None = record { refusal = 0; consumed = consumed; written = written; report = 0; ctype = 0; length = 0; error = 0 }
+fed_took consumed written (Some report) = fed_report consumed written report
 
 abbrev pub fed_refused : Refusal → FedAnswer
 fed_refused why = record { refusal = why.0; consumed = 0; written = 0; report = 0; ctype = 0; length = 0; error = 0 }
 
-unfoldable pub fed_answer : FeedAnswer → FedAnswer
-fed_answer (fed_as.Refused why) = fed_refused why
-fed_answer (fed_as.Took consumed written ended) = fed_took consumed written ended
+unfoldable pub fed_answer : Result Advance Refusal → FedAnswer
+fed_answer (Err why) = fed_refused why
+fed_answer (Ok took) = fed_took took.consumed took.written took.ended
 
-unfoldable pub close_refusal : CloseAnswer → ℕ
-close_refusal (closed_as.Refused why) = why.0
-close_refusal closed_as.Clean = 0
-close_refusal closed_as.Truncated = 0
+unfoldable pub close_refusal : Result Ending Refusal → ℕ
+close_refusal (Err why) = why.0
+close_refusal (Ok Clean) = 0
+close_refusal (Ok Truncated) = 0
 
-unfoldable pub closed_answer : CloseAnswer → ClosedAnswer
+unfoldable pub closed_answer : Result Ending Refusal → ClosedAnswer
 closed_answer a = record { refusal = close_refusal a; end = end_number a; error = error_number (close_error a) }

@@ -1,11 +1,11 @@
 -- A look at a reader, in numbers.
-use Rattle.std.specs.Prelude.{ℕ, Bool}
+use Rattle.refusals.specs.declared.Refusal.{Refusal}
+use Rattle.look.specs.declared.Sight.{Sight}
+use Rattle.std.specs.Prelude.{ℕ, Bool, Result, Ok, Err}
 use Rattle.look.specs.declared.Buffer.{Buffer}
 use Rattle.look.specs.declared.Buffer.TheVariants.{Neither, Gathering, Addresses}
 use Rattle.look.specs.declared.Place.{Place}
 use Rattle.look.specs.declared.Place.TheVariants.{Between, InType, InLength, InValue}
-use Rattle.look.specs.declared.Looked.{Looked}
-use Rattle.look.specs.declared.Looked.TheVariants.{Refused, Seen}
 use Rattle.reader_answers.specs.declared.sight.LookAnswer.{LookAnswer}
 use Rattle.reader_words.specs.Numbers.{bit_of}
 
@@ -24,6 +24,6 @@ sight_answer finished limit InType = look_numbers finished limit 1 0 0 0 0 0
 sight_answer finished limit (InLength t) = look_numbers finished limit 2 t 0 0 0 0
 sight_answer finished limit (InValue t n to_come gathered buffer) = look_numbers finished limit 3 t n to_come gathered (buffer_number buffer)
 
-unfoldable pub looked_answer : Looked → LookAnswer
-looked_answer (Refused why) = record { refusal = why.0; finished = 0; datagram_limit = 0; field = 0; capsule_type = 0; length = 0; to_come = 0; gathered = 0; buffer = 0 }
-looked_answer (Seen s) = sight_answer s.finished s.limit s.place
+unfoldable pub looked_answer : Result Sight Refusal → LookAnswer
+looked_answer (Err why) = record { refusal = why.0; finished = 0; datagram_limit = 0; field = 0; capsule_type = 0; length = 0; to_come = 0; gathered = 0; buffer = 0 }
+looked_answer (Ok s) = sight_answer s.finished s.limit s.place

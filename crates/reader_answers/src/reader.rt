@@ -3,10 +3,9 @@ ghost use Rattle.std.specs.Prelude.{◌≡◌};
 ghost use Rattle.reader_answers.specs.Reader.{fed_refused, fed_report, fed_took, closed_answer};
 
 use answers::numbers::{error_number, refusal_number};
-use capsule::reader::CloseAnswer;
+use capsule::reader::Ending;
 use http_errors::ties::{close_error, report_error};
 use opening::Report;
-use planning::Ended;
 use refusals::Refusal;
 
 // report: 0 no capsule ended, 1 delivered, 2 dropped, 3 skipped, 4 passed, 5 address capsule delivered, 6 malformed
@@ -56,7 +55,7 @@ pub fn fed_report(consumed: usize, written: usize, report: Report) -> FedAnswer
             written: written as u64,
             report: 1,
             ctype: 0,
-            length: length,
+            length,
             error: 0,
         },
         Report::Dropped { length } => FedAnswer {
@@ -65,7 +64,7 @@ pub fn fed_report(consumed: usize, written: usize, report: Report) -> FedAnswer
             written: written as u64,
             report: 2,
             ctype: 0,
-            length: length,
+            length,
             error: 0,
         },
         Report::Skipped { ctype, length } => FedAnswer {
@@ -73,8 +72,8 @@ pub fn fed_report(consumed: usize, written: usize, report: Report) -> FedAnswer
             consumed: consumed as u64,
             written: written as u64,
             report: 3,
-            ctype: ctype,
-            length: length,
+            ctype,
+            length,
             error: 0,
         },
         Report::Passed { ctype, length } => FedAnswer {
@@ -82,8 +81,8 @@ pub fn fed_report(consumed: usize, written: usize, report: Report) -> FedAnswer
             consumed: consumed as u64,
             written: written as u64,
             report: 4,
-            ctype: ctype,
-            length: length,
+            ctype,
+            length,
             error: 0,
         },
         Report::AddressDelivered { ctype, length } => FedAnswer {
@@ -91,8 +90,8 @@ pub fn fed_report(consumed: usize, written: usize, report: Report) -> FedAnswer
             consumed: consumed as u64,
             written: written as u64,
             report: 5,
-            ctype: ctype,
-            length: length,
+            ctype,
+            length,
             error: 0,
         },
         Report::Malformed { ctype, length } => FedAnswer {
@@ -100,18 +99,18 @@ pub fn fed_report(consumed: usize, written: usize, report: Report) -> FedAnswer
             consumed: consumed as u64,
             written: written as u64,
             report: 6,
-            ctype: ctype,
-            length: length,
+            ctype,
+            length,
             error: error_number(report_error(report)),
         },
     }
 }
 
-pub fn fed_took(consumed: usize, written: usize, ended: Ended) -> FedAnswer
+pub fn fed_took(consumed: usize, written: usize, ended: Option<Report>) -> FedAnswer
     ensures { result ≡ fed_took consumed written ended }
 {
     match ended {
-        Ended::Nothing => FedAnswer {
+        None => FedAnswer {
             refusal: 0,
             consumed: consumed as u64,
             written: written as u64,
@@ -120,28 +119,32 @@ pub fn fed_took(consumed: usize, written: usize, ended: Ended) -> FedAnswer
             length: 0,
             error: 0,
         },
-        Ended::Capsule(report) => fed_report(consumed, written, report),
+        Some(report) => fed_report(consumed, written, report),
     }
 }
 
-pub fn closed_answer(answer: CloseAnswer) -> ClosedAnswer
+#[tactic(auto, unfolding(crate::specs::Reader::closed_answer, crate::specs::Reader::close_refusal, answers::specs::Numbers::end_number))]
+pub fn closed_answer(answer: Result<Ending, Refusal>) -> ClosedAnswer
     ensures { result ≡ closed_answer answer }
 {
+    let error = error_number(close_error(answer));
     match answer {
-        CloseAnswer::Refused(why) => ClosedAnswer {
+        Err(why) => ClosedAnswer {
             refusal: refusal_number(why),
             end: 0,
-            error: error_number(close_error(answer)),
+            error,
         },
-        CloseAnswer::Clean => ClosedAnswer {
-            refusal: 0,
-            end: 1,
-            error: error_number(close_error(answer)),
-        },
-        CloseAnswer::Truncated => ClosedAnswer {
-            refusal: 0,
-            end: 2,
-            error: error_number(close_error(answer)),
+        Ok(ending) => match ending {
+            Ending::Clean => ClosedAnswer {
+                refusal: 0,
+                end: 1,
+                error,
+            },
+            Ending::Truncated => ClosedAnswer {
+                refusal: 0,
+                end: 2,
+                error,
+            },
         },
     }
 }

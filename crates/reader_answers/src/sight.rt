@@ -3,8 +3,9 @@ ghost use Rattle.std.specs.Prelude.{◌≡◌};
 ghost use Rattle.reader_answers.specs.Sight.{buffer_number, sight_answer, looked_answer};
 
 use answers::numbers::refusal_number;
-use look::{Buffer, Looked, Place};
+use look::{Buffer, Place, Sight};
 use reader_words::numbers::bit_of;
+use refusals::Refusal;
 
 // field: 0 between capsules, 1 in a type, 2 in a length, 3 in a value
 // capsule_type: with fields 2 and 3; length, to_come, gathered and buffer: with field 3
@@ -23,11 +24,11 @@ pub struct LookAnswer {
     pub buffer: u64,
 }
 
-pub fn looked_answer(looked: Looked) -> LookAnswer
+pub fn looked_answer(looked: Result<Sight, Refusal>) -> LookAnswer
     ensures { result ≡ looked_answer looked }
 {
     match looked {
-        Looked::Refused(why) => LookAnswer {
+        Err(why) => LookAnswer {
             refusal: refusal_number(why),
             finished: 0,
             datagram_limit: 0,
@@ -38,7 +39,7 @@ pub fn looked_answer(looked: Looked) -> LookAnswer
             gathered: 0,
             buffer: 0,
         },
-        Looked::Seen(sight) => {
+        Ok(sight) => {
             let place = sight.place;
             sight_answer(sight.finished, sight.limit, place)
         }
@@ -76,7 +77,7 @@ fn sight_answer(finished: bool, limit: u64, place: Place) -> LookAnswer
             finished: bit_of(finished),
             datagram_limit: limit,
             field: 2,
-            capsule_type: capsule_type,
+            capsule_type,
             length: 0,
             to_come: 0,
             gathered: 0,
@@ -93,15 +94,16 @@ fn sight_answer(finished: bool, limit: u64, place: Place) -> LookAnswer
             finished: bit_of(finished),
             datagram_limit: limit,
             field: 3,
-            capsule_type: capsule_type,
-            length: length,
-            to_come: to_come,
-            gathered: gathered,
+            capsule_type,
+            length,
+            to_come,
+            gathered,
             buffer: buffer_number(buffer),
         },
     }
 }
 
+// No From: the numbers are the C interface's, and From would have to stand in the crate of `Buffer`.
 fn buffer_number(buffer: Buffer) -> u64
     ensures { result ≡ buffer_number buffer }
 {

@@ -3,12 +3,12 @@ ghost use Rattle.std.specs.Prelude.{◌≡◌};
 ghost use Rattle.capsule.specs.Calls.{lent};
 ghost use Rattle.reader_calls.specs.Reader.{opened, open_words, fed, feed_words};
 
-use crate::short::{Tried, try_short};
+use crate::short::try_short;
 use answers::numbers::refusal_number;
-use capsule::reader::{FeedAnswer, Opened, Reader};
+use capsule::reader::Reader;
 use reader_answers::reader::{FedAnswer, fed_took, feed_refused};
 use reader_words::numbers::{flag_of, role_of};
-use reader_words::words::{Loaded, load, store};
+use reader_words::words::{load, store};
 use refusals::Refusal;
 
 #[repr(C)]
@@ -30,14 +30,15 @@ pub fn open_words(words: &mut [u64; 8], opening: OpeningNumbers) -> u64
         flag_of(opening.draft),
         flag_of(opening.addresses),
     ) {
-        Opened::Refused(why) => refusal_number(why),
-        Opened::Ready(reader) => {
+        Err(why) => refusal_number(why),
+        Ok(reader) => {
             store(words, reader);
             0
         }
     }
 }
 
+// The lent buffers are arguments of their own here and below, as in C (`mrz_reader_feed`).
 pub fn feed_words(
     words: &mut [u64; 8],
     piece: &[u8],
@@ -48,8 +49,8 @@ pub fn feed_words(
     ensures { fed result words.new (lent gathering.new addresses.new output.new) ≡ feed_words words.old piece.now (lent gathering.old addresses.old output.old) }
 {
     match try_short(words, piece, gathering, addresses, output) {
-        Tried::Fed(answer) => answer,
-        Tried::Not => feed_loaded(words, piece, gathering, addresses, output),
+        Some(answer) => answer,
+        None => feed_loaded(words, piece, gathering, addresses, output),
     }
 }
 
@@ -63,23 +64,17 @@ fn feed_loaded(
 ) -> FedAnswer
     ensures { fed result words.new (lent gathering.new addresses.new output.new) ≡ feed_words words.old piece.now (lent gathering.old addresses.old output.old) }
 {
-    match load(words) {
-        Loaded::Nothing => feed_refused(Refusal::UNMAKEABLE_STATE),
-        Loaded::Is(reader) => {
-            let fed = reader.feed(piece, gathering, addresses, output);
-            let answer = fed.answer;
-            match answer {
-                FeedAnswer::Refused(why) => feed_refused(why),
-                FeedAnswer::Took {
-                    consumed,
-                    written,
-                    ended,
-                } => {
-                    let next = fed.reader;
-                    store(words, next);
-                    fed_took(consumed, written, ended)
-                }
-            }
+    let Some(reader) = load(words) else {
+        return feed_refused(Refusal::UNMAKEABLE_STATE);
+    };
+    let fed = reader.feed(piece, gathering, addresses, output);
+    let answer = fed.answer;
+    match answer {
+        Err(why) => feed_refused(why),
+        Ok(took) => {
+            let next = fed.reader;
+            store(words, next);
+            fed_took(took.consumed, took.written, took.ended)
         }
     }
 }

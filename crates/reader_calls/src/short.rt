@@ -1,24 +1,14 @@
 // Short ways of feeding a reader in the host's words.
-ghost use Rattle.std.specs.Prelude.{◌≡◌, get_or};
+ghost use Rattle.std.specs.Prelude.{◌≡◌, Some, get_or};
 ghost use Rattle.capsule.specs.Calls.{lent};
 ghost use Rattle.capsule.specs.Reader.{fresh};
 ghost use Rattle.fast_paths.specs.FastPaths.{in_value};
-ghost use Rattle.reader_words.specs.declared.words.Loaded.TheVariants.{Is};
 ghost use Rattle.reader_words.specs.Words.{reader_in, opening_in};
 ghost use Rattle.reader_calls.specs.ShortWords.{TriedRight};
 
 use fast_paths::{Inside, Whole, feed_inside, feed_whole};
-use planning::Ended;
 use reader_answers::reader::{FedAnswer, fed_report, fed_took};
-use reader_words::words::{Position, copied, opening_in, position_of};
-
-// What came of trying a short way.
-#[derive(Clone, Copy)]
-pub(crate) enum Tried {
-    // nothing was changed
-    Not,
-    Fed(FedAnswer),
-}
+use reader_words::words::{Position, opening_in, position_of};
 
 pub(crate) fn try_short(
     words: &mut [u64; 8],
@@ -26,50 +16,47 @@ pub(crate) fn try_short(
     gathering: &mut [u8],
     addresses: &[u8],
     output: &mut [u8],
-) -> Tried
+) -> Option<FedAnswer>
     ensures { TriedRight words.old piece.now (lent gathering.old addresses.now output.old) result words.new (lent gathering.new addresses.now output.new) }
 {
     match position_of(words) {
-        Position::Other => Tried::Not,
+        Position::Other => None,
         Position::Between => try_between(words, piece, gathering, addresses, output),
         Position::Within => try_within(words, piece, gathering, addresses, output),
     }
 }
 
-// The words of an open reader between two capsules: most feedings find a whole capsule there, and leave the words as they are.
+// The words of an open reader between two capsules: most feedings find a whole capsule there, and leave the words as
+// they are.
 fn try_between(
     words: &mut [u64; 8],
     piece: &[u8],
     gathering: &mut [u8],
     addresses: &[u8],
     output: &mut [u8],
-) -> Tried
-    requires { reader_in words.old ≡ Is (fresh (opening_in words.old)) }
+) -> Option<FedAnswer>
+    requires { reader_in words.old ≡ Some (fresh (opening_in words.old)) }
     ensures { TriedRight words.old piece.now (lent gathering.old addresses.now output.old) result words.new (lent gathering.new addresses.now output.new) }
 {
     let opening = opening_in(words);
-    match feed_whole(opening, piece, gathering, addresses, output) {
-        Whole::Not => Tried::Not,
+    let whole = feed_whole(opening, piece, gathering, addresses, output)?;
+    match whole {
         Whole::Took {
             consumed,
             written,
             report,
-        } => {
-            copied(words);
-            Tried::Fed(fed_report(consumed, written, report))
-        }
+        } => { Some(fed_report(consumed, written, report)) }
         Whole::Cut {
             written,
             ctype,
             size,
             left,
         } => {
-            copied(words);
             words[3] = 2;
             words[4] = ctype;
             words[5] = size;
             words[6] = left;
-            Tried::Fed(fed_took(piece.len(), written, Ended::Nothing))
+            Some(fed_took(piece.len(), written, None))
         }
     }
 }
@@ -81,32 +68,30 @@ fn try_within(
     gathering: &mut [u8],
     addresses: &[u8],
     output: &mut [u8],
-) -> Tried
-    requires { reader_in words.old ≡ Is (in_value (opening_in words.old) (get_or words.old 4 0) (get_or words.old 5 0) (get_or words.old 6 0)) }
+) -> Option<FedAnswer>
+    requires { reader_in words.old ≡ Some (in_value (opening_in words.old) (get_or words.old 4 0) (get_or words.old 5 0) (get_or words.old 6 0)) }
     ensures { TriedRight words.old piece.now (lent gathering.old addresses.now output.old) result words.new (lent gathering.new addresses.now output.new) }
 {
     let opening = opening_in(words);
     let left = words[6];
-    match feed_inside(
+    let inside = feed_inside(
         opening, words[4], words[5], left, piece, gathering, addresses, output,
-    ) {
-        Inside::Not => Tried::Not,
+    )?;
+    match inside {
         Inside::Took { written } => {
-            copied(words);
             words[6] = left - (piece.len() as u64);
-            Tried::Fed(fed_took(piece.len(), written, Ended::Nothing))
+            Some(fed_took(piece.len(), written, None))
         }
         Inside::Ended {
             consumed,
             written,
             report,
         } => {
-            copied(words);
             words[3] = 0;
             words[4] = 0;
             words[5] = 0;
             words[6] = 0;
-            Tried::Fed(fed_report(consumed, written, report))
+            Some(fed_report(consumed, written, report))
         }
     }
 }

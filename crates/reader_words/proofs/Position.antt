@@ -1,6 +1,7 @@
 -- Where an open reader is (specs/Claims.antt). Assumes nothing.
+use Rattle.std.specs.Prelude.{Some}
 use Rattle.walks.proofs.Words.{ℕ, ◌+◌, ◌≤◌, ◌≡◌, refl, sym, subst, Bool, true, false, cond, List, arith, get_or, eqb, le-leb, leb-true, eqb-true}
-use Rattle.reader_words.proofs.Terms.{fresh, in_value, parted, Is, Position, Other, Between, Within, flag_of, reader_mark, phase_in, with_phase, reader_in, opening_in, is_open_in, is_between_in, position_of, ReadAt, PositionRead}
+use Rattle.reader_words.proofs.Terms.{fresh, in_value, parted, Position, Other, Between, Within, flag_of, reader_mark, phase_in, with_phase, reader_in, opening_in, is_open_in, is_between_in, position_of, ReadAt, PositionRead}
 use Rattle.reader_words.proofs.StoredForm.{reads_so}
 
 module _ (ws : List ℕ) where
@@ -50,13 +51,13 @@ pub position_read : PositionRead
 unfolding ReadAt with_phase phase_in opening_in flag_of
 position_read ws =
     by_position ws (ReadAt ws) tt
-    (λ l h s f k. sym (reads_so ws l h (omega arith) (omega arith) (Is (in_value (opening_in ws) (get_or ws 4 0) (get_or ws 5 0) (get_or ws 6 0))) (rw (f, k))))
-    (λ l h s f k a b c. sym (reads_so ws l h (omega arith) (omega arith) (Is (fresh (opening_in ws))) (rw (f, k, a, b, c))))
+    (λ l h s f k. sym (reads_so ws l h (omega arith) (omega arith) (Some (in_value (opening_in ws) (get_or ws 4 0) (get_or ws 5 0) (get_or ws 6 0))) (rw (f, k))))
+    (λ l h s f k a b c. sym (reads_so ws l h (omega arith) (omega arith) (Some (fresh (opening_in ws))) (rw (f, k, a, b, c))))
 
-pub between_reads : (ws : List ℕ) → Between ≡ position_of ws → reader_in ws ≡ Is (fresh (opening_in ws))
+pub between_reads : (ws : List ℕ) → Between ≡ position_of ws → reader_in ws ≡ Some (fresh (opening_in ws))
 unfolding ReadAt
 between_reads ws e = subst (ReadAt ws) (sym e) (position_read ws)
 
-pub within_reads : (ws : List ℕ) → Within ≡ position_of ws → reader_in ws ≡ Is (in_value (opening_in ws) (get_or ws 4 0) (get_or ws 5 0) (get_or ws 6 0))
+pub within_reads : (ws : List ℕ) → Within ≡ position_of ws → reader_in ws ≡ Some (in_value (opening_in ws) (get_or ws 4 0) (get_or ws 5 0) (get_or ws 6 0))
 unfolding ReadAt
 within_reads ws e = subst (ReadAt ws) (sym e) (position_read ws)

@@ -1,8 +1,7 @@
 -- The stored form of a reader (specs/Claims.antt). Assumes nothing.
+use Rattle.std.specs.Prelude.{Option, Some, None}
 use Rattle.walks.proofs.Words.{ℕ, ◌+◌, ◌*◌, ◌%◌, ◌≤◌, ◌≡◌, refl, sym, Bool, true, false, cond, not, ◌&&◌, List, [], ◌∷◌, arith, get_or, leb, ltb, eqb, le-leb, leb-true, leb-false, ltb-true, ltb-false, eqb-true, eqb-false}
-use Rattle.reader_words.proofs.Terms.{partial, parted, Role, Endpoint, Intermediary, Phase, InType, InLength, InValue, Reader, zero_one, LoadedPhase, Loaded, flag_of, bit_of, reader_mark, role_word, role_in, settings_number, draft_in, addresses_in, phase_words, words_of, phase_in, with_phase, reader_in, HaveIsByte, StoredRead, ReadAsStored}
-use Rattle.reader_words.specs.declared.words.LoadedPhase.TheVariants as phase
-use Rattle.reader_words.specs.declared.words.Loaded.TheVariants as loaded
+use Rattle.reader_words.proofs.Terms.{partial, parted, Role, Endpoint, Intermediary, Phase, InType, InLength, InValue, Reader, zero_one, flag_of, bit_of, reader_mark, role_word, role_in, settings_number, draft_in, addresses_in, phase_words, words_of, phase_in, with_phase, reader_in, HaveIsByte, StoredRead, ReadAsStored}
 
 -- ---- numbers there and back
 
@@ -53,16 +52,16 @@ settings_there n small = go (eqb (n % 2) 1) (ltb 1 n) refl refl
 
 module _ (ws : List ℕ) where
   pub reads_so : reader_mark ≤ get_or ws 0 0 → get_or ws 0 0 ≤ reader_mark + 1 → get_or ws 2 0 ≤ 3 → get_or ws 7 0 ≤ 1
-      → (x : Loaded) → x ≡ with_phase (get_or ws 0 0) (get_or ws 1 0) (get_or ws 2 0) (get_or ws 7 0) (phase_in (get_or ws 3 0) (get_or ws 4 0) (get_or ws 5 0) (get_or ws 6 0)) → x ≡ reader_in ws
+      → (x : Option Reader) → x ≡ with_phase (get_or ws 0 0) (get_or ws 1 0) (get_or ws 2 0) (get_or ws 7 0) (phase_in (get_or ws 3 0) (get_or ws 4 0) (get_or ws 5 0) (get_or ws 6 0)) → x ≡ reader_in ws
   unfolding reader_in
   reads_so low high settings mark x e = rw (le-leb reader_mark (get_or ws 0 0) low, le-leb (get_or ws 0 0) (reader_mark + 1) high, le-leb (get_or ws 2 0) 3 settings, le-leb (get_or ws 7 0) 1 mark) e
 
-  pub reads_not : (reader_mark ≤ get_or ws 0 0 → get_or ws 0 0 ≤ reader_mark + 1 → get_or ws 2 0 ≤ 3 → get_or ws 7 0 ≤ 1 → ⊥) → loaded.Nothing ≡ reader_in ws
+  pub reads_not : (reader_mark ≤ get_or ws 0 0 → get_or ws 0 0 ≤ reader_mark + 1 → get_or ws 2 0 ≤ 3 → get_or ws 7 0 ≤ 1 → ⊥) → None ≡ reader_in ws
   unfolding reader_in
   reads_not n = go (leb reader_mark (get_or ws 0 0)) (leb (get_or ws 0 0) (reader_mark + 1)) (leb (get_or ws 2 0) 3) (leb (get_or ws 7 0) 1) refl refl refl refl
     where
       go : (tl th ts tm : Bool) → leb reader_mark (get_or ws 0 0) ≡ tl → leb (get_or ws 0 0) (reader_mark + 1) ≡ th → leb (get_or ws 2 0) 3 ≡ ts → leb (get_or ws 7 0) 1 ≡ tm
-          → loaded.Nothing ≡ cond ((tl && th) && (ts && tm)) (with_phase (get_or ws 0 0) (get_or ws 1 0) (get_or ws 2 0) (get_or ws 7 0) (phase_in (get_or ws 3 0) (get_or ws 4 0) (get_or ws 5 0) (get_or ws 6 0))) loaded.Nothing
+          → None ≡ cond ((tl && th) && (ts && tm)) (with_phase (get_or ws 0 0) (get_or ws 1 0) (get_or ws 2 0) (get_or ws 7 0) (phase_in (get_or ws 3 0) (get_or ws 4 0) (get_or ws 5 0) (get_or ws 6 0))) None
       go true true true true l h s m = absurd (n (leb-true reader_mark (get_or ws 0 0) l) (leb-true (get_or ws 0 0) (reader_mark + 1) h) (leb-true (get_or ws 2 0) 3 s) (leb-true (get_or ws 7 0) 1 m))
       go true true true false l h s m = refl
       go true true false tm l h s m = refl
@@ -77,7 +76,7 @@ record Stored (x : Phase) : Type 0 where
   second : ℕ
   third : ℕ
   words : phase_words x ≡ kind ∷ first ∷ second ∷ third ∷ []
-  back : phase_in kind first second third ≡ phase.Is x
+  back : phase_in kind first second third ≡ Some x
 
 phase-back : (x : Phase) → HaveIsByte x → Stored x
 unfolding phase_words phase_in
@@ -99,7 +98,7 @@ stored-read r byte =
 module _ (k a b c : ℕ) (p : Phase) where
   -- the tests of a phase, one by one
   phase_tests : (t0 t1 t2 t_type t_length : Bool) → eqb k 0 ≡ t0 → eqb k 1 ≡ t1 → eqb k 2 ≡ t2 → (leb a 255 && eqb c 0) ≡ t_type
-      → cond t0 (cond t_type (phase.Is (InType (partial a b))) phase.Nothing) (cond t1 (cond t_length (phase.Is (InLength a (partial b c))) phase.Nothing) (cond t2 (phase.Is (InValue a b c)) phase.Nothing)) ≡ phase.Is p
+      → cond t0 (cond t_type (Some (InType (partial a b))) None) (cond t1 (cond t_length (Some (InLength a (partial b c))) None) (cond t2 (Some (InValue a b c)) None)) ≡ Some p
       → phase_words p ≡ k ∷ a ∷ b ∷ c ∷ []
   unfolding phase_words
   phase_tests true t1 t2 true t_length e0 e1 e2 e_type h =
@@ -115,12 +114,12 @@ module _ (k a b c : ℕ) (p : Phase) where
       rw (← d, eqb-true k 2 e2)
   phase_tests false false false t_type t_length e0 e1 e2 e_type h = zero_one (cc)
 
-  phase-stored : phase_in k a b c ≡ phase.Is p → phase_words p ≡ k ∷ a ∷ b ∷ c ∷ []
+  phase-stored : phase_in k a b c ≡ Some p → phase_words p ≡ k ∷ a ∷ b ∷ c ∷ []
   unfolding phase_in
   phase-stored h = phase_tests (eqb k 0) (eqb k 1) (eqb k 2) (leb a 255 && eqb c 0) (leb b 255) refl refl refl refl h
 
 -- what is read has passed the tests
-tested : {r : Reader} (t : Bool) (x : Loaded) → cond t x loaded.Nothing ≡ loaded.Is r → (t ≡ true) × (x ≡ loaded.Is r)
+tested : {r : Reader} (t : Bool) (x : Option Reader) → cond t x None ≡ Some r → (t ≡ true) × (x ≡ Some r)
 tested true x h = (refl, h)
 tested false x h = zero_one (cc)
 
@@ -128,14 +127,14 @@ module _ (a0 a1 a2 a3 a4 a5 a6 a7 : ℕ) (r : Reader) where
   abbrev ws : List ℕ
   ws = a0 ∷ a1 ∷ a2 ∷ a3 ∷ a4 ∷ a5 ∷ a6 ∷ a7 ∷ []
 
-  with_stored : leb reader_mark a0 ≡ true → leb a0 (reader_mark + 1) ≡ true → leb a2 3 ≡ true → leb a7 1 ≡ true → (x : LoadedPhase) → phase_in a3 a4 a5 a6 ≡ x → with_phase a0 a1 a2 a7 x ≡ loaded.Is r → words_of r ≡ ws
+  with_stored : leb reader_mark a0 ≡ true → leb a0 (reader_mark + 1) ≡ true → leb a2 3 ≡ true → leb a7 1 ≡ true → (x : Option Phase) → phase_in a3 a4 a5 a6 ≡ x → with_phase a0 a1 a2 a7 x ≡ Some r → words_of r ≡ ws
   unfolding with_phase words_of
-  with_stored l0 h0 s2 s7 phase.Nothing e h = zero_one (cc)
-  with_stored l0 h0 s2 s7 (phase.Is p) e h =
+  with_stored l0 h0 s2 s7 None e h = zero_one (cc)
+  with_stored l0 h0 s2 s7 (Some p) e h =
       let d : record { opening = record { role = role_in a0; limit = a1; draft = draft_in a2; addresses = addresses_in a2 }; phase = p; finished = flag_of a7 } ≡ r = cc in
       rw (← d, role_there a0 l0 h0, settings_there a2 s2, bit_there a7 s7, phase-stored a3 a4 a5 a6 p e)
 
-  eight_stored : reader_in ws ≡ loaded.Is r → words_of r ≡ ws
+  eight_stored : reader_in ws ≡ Some r → words_of r ≡ ws
   unfolding reader_in
   eight_stored h =
       let t = tested _ _ h in

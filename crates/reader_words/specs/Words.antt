@@ -1,5 +1,5 @@
 -- A reader in eight words: a mark with the role, the datagram limit, the two settings, the phase's number and three words of it, whether it is finished.
-use Rattle.std.specs.Prelude.{ℕ, ◌+◌, ◌*◌, ◌%◌, Bool, cond, ◌&&◌, List, [], ◌∷◌, ◌++◌, get_or, leb, ltb, eqb}
+use Rattle.std.specs.Prelude.{ℕ, ◌+◌, ◌*◌, ◌%◌, Bool, cond, ◌&&◌, List, [], ◌∷◌, ◌++◌, get_or, leb, ltb, eqb, Option, Some, None}
 use Rattle.wire.specs.Partial.{partial}
 use Rattle.opening.specs.declared.Role.{Role}
 use Rattle.opening.specs.declared.Role.TheVariants.{Endpoint, Intermediary}
@@ -8,10 +8,6 @@ use Rattle.planning.specs.declared.Phase.{Phase}
 use Rattle.planning.specs.declared.Phase.TheVariants.{InType, InLength, InValue}
 use Rattle.capsule.specs.declared.reader.Reader.{Reader}
 use Rattle.capsule.specs.Reader.{opening}
-use Rattle.reader_words.specs.declared.words.LoadedPhase.{LoadedPhase}
-use Rattle.reader_words.specs.declared.words.LoadedPhase.TheVariants as phase
-use Rattle.reader_words.specs.declared.words.Loaded.{Loaded}
-use Rattle.reader_words.specs.declared.words.Loaded.TheVariants as loaded
 use Rattle.reader_words.specs.Numbers.{flag_of, bit_of}
 
 -- ---- the stored form
@@ -40,13 +36,13 @@ words_of r =
 -- ---- reading it back (see the claims `StoredRead` and `ReadAsStored`)
 
 -- `have` is a byte, and the word that is not used in a type is 0
-unfoldable pub phase_in : ℕ → ℕ → ℕ → ℕ → LoadedPhase
+unfoldable pub phase_in : ℕ → ℕ → ℕ → ℕ → Option Phase
 phase_in kind a b c =
     cond (eqb kind 0)
-    (cond (leb a 255 && eqb c 0) (phase.Is (InType (partial a b))) phase.Nothing)
+    (cond (leb a 255 && eqb c 0) (Some (InType (partial a b))) None)
     (cond (eqb kind 1)
-    (cond (leb b 255) (phase.Is (InLength a (partial b c))) phase.Nothing)
-    (cond (eqb kind 2) (phase.Is (InValue a b c)) phase.Nothing))
+    (cond (leb b 255) (Some (InLength a (partial b c))) None)
+    (cond (eqb kind 2) (Some (InValue a b c)) None))
 
 unfoldable pub role_in : ℕ → Role
 role_in word = cond (leb word reader_mark) Endpoint Intermediary
@@ -60,14 +56,14 @@ addresses_in settings = ltb 1 settings
 unfoldable pub opening_in : List ℕ → Opening
 opening_in ws = opening (role_in (get_or ws 0 0)) (get_or ws 1 0) (draft_in (get_or ws 2 0)) (addresses_in (get_or ws 2 0))
 
-unfoldable pub with_phase : ℕ → ℕ → ℕ → ℕ → LoadedPhase → Loaded
-with_phase role limit settings finished phase.Nothing = loaded.Nothing
-with_phase role limit settings finished (phase.Is p) =
-    loaded.Is (record { opening = opening (role_in role) limit (draft_in settings) (addresses_in settings); phase = p; finished = flag_of finished })
+unfoldable pub with_phase : ℕ → ℕ → ℕ → ℕ → Option Phase → Option Reader
+with_phase role limit settings finished None = None
+with_phase role limit settings finished (Some p) =
+    Some (record { opening = opening (role_in role) limit (draft_in settings) (addresses_in settings); phase = p; finished = flag_of finished })
 
 -- the role's word is one of two, finished is 0 or 1, the settings are 0 to 3
-unfoldable pub reader_in : List ℕ → Loaded
+unfoldable pub reader_in : List ℕ → Option Reader
 reader_in ws =
     cond ((leb reader_mark (get_or ws 0 0) && leb (get_or ws 0 0) (reader_mark + 1)) && (leb (get_or ws 2 0) 3 && leb (get_or ws 7 0) 1))
     (with_phase (get_or ws 0 0) (get_or ws 1 0) (get_or ws 2 0) (get_or ws 7 0) (phase_in (get_or ws 3 0) (get_or ws 4 0) (get_or ws 5 0) (get_or ws 6 0)))
-    loaded.Nothing
+    None

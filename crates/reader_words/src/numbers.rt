@@ -4,12 +4,8 @@ ghost use Rattle.reader_words.specs.Numbers.{flag_of, bit_of, role_of};
 
 use opening::Role;
 
-pub fn wide(n: u8) -> u64
-    ensures { result ≡ n }
-{
-    n as u64
-}
-
+// These are no From: they are the numbers of the C interface and of the words, and `bool`, `u64` and `Role` are not of
+// this crate.
 pub fn flag_of(n: u64) -> bool
     ensures { result ≡ flag_of n }
 {
@@ -19,7 +15,7 @@ pub fn flag_of(n: u64) -> bool
 pub fn bit_of(flag: bool) -> u64
     ensures { result ≡ bit_of flag }
 {
-    if flag { 1 } else { 0 }
+    u64::from(flag)
 }
 
 pub fn role_of(n: u64) -> Role

@@ -3,7 +3,7 @@ ghost use Rattle.std.specs.Prelude.{◌≡◌};
 ghost use Rattle.reader_words.specs.Words.{role_word, role_in, settings_number, draft_in, addresses_in, words_of, phase_in, reader_in, opening_in};
 ghost use Rattle.reader_words.specs.Position.{position_of};
 
-use crate::numbers::{bit_of, flag_of, wide};
+use crate::numbers::{bit_of, flag_of};
 use capsule::reader::Reader;
 use opening::{Opening, Role};
 use planning::Phase;
@@ -12,56 +12,39 @@ use wire::partial::Partial;
 // What the first word is above the role's number: "mrz" and a byte of 0. Words that are all 0 are no reader's.
 const MARK: u64 = 0x6d727a00;
 
-// What some words are the stored form of.
-#[derive(Clone, Copy)]
-pub enum LoadedPhase {
-    Nothing,
-    Is(Phase),
-}
-
-#[derive(Clone, Copy)]
-pub enum Loaded {
-    Nothing,
-    Is(Reader),
-}
-
 #[tactic(auto, using(crate::proofs::StoredForm::reads_not), unfolding(crate::specs::Words::with_phase, crate::specs::Words::reader_mark))]
-pub fn load(words: &[u64; 8]) -> Loaded
+pub fn load(words: &[u64; 8]) -> Option<Reader>
     ensures { result ≡ reader_in words.now }
 {
     if words[0] < MARK {
-        return Loaded::Nothing;
+        return None;
     }
     if words[0] > MARK + 1 {
-        return Loaded::Nothing;
+        return None;
     }
     let settings = words[2];
     if settings > 3 {
-        return Loaded::Nothing;
+        return None;
     }
     if words[7] > 1 {
-        return Loaded::Nothing;
+        return None;
     }
-    match load_phase(words[3], words[4], words[5], words[6]) {
-        LoadedPhase::Nothing => Loaded::Nothing,
-        LoadedPhase::Is(phase) => {
-            let opening = Opening {
-                role: role_in(words[0]),
-                limit: words[1],
-                draft: draft_in(settings),
-                addresses: addresses_in(settings),
-            };
-            Loaded::Is(Reader {
-                opening: opening,
-                phase: phase,
-                finished: flag_of(words[7]),
-            })
-        }
-    }
+    let phase = load_phase(words[3], words[4], words[5], words[6])?;
+    let opening = Opening {
+        role: role_in(words[0]),
+        limit: words[1],
+        draft: draft_in(settings),
+        addresses: addresses_in(settings),
+    };
+    Some(Reader {
+        opening,
+        phase,
+        finished: flag_of(words[7]),
+    })
 }
 
-// Where an open reader is, as far as a short way goes by it. One that opted in goes the general way: a test for it on the short
-// ways costs every reader time.
+// Where an open reader is, as far as a short way goes by it. One that opted in goes the general way: a test for it on
+// the short ways costs every reader time.
 #[derive(Clone, Copy)]
 pub enum Position {
     Other,
@@ -120,35 +103,28 @@ pub fn store(words: &mut [u64; 8], reader: Reader)
     *words = words_of(reader);
 }
 
-// The words themselves. A result by value is known to have eight.
-pub fn copied(words: &[u64; 8]) -> [u64; 8]
-    ensures { result ≡ words.now }
-{
-    *words
-}
-
 // The phase by its number and the three words behind it.
 #[tactic(auto, unfolding(crate::specs::Words::phase_in))]
-fn load_phase(kind: u64, a: u64, b: u64, c: u64) -> LoadedPhase
+fn load_phase(kind: u64, a: u64, b: u64, c: u64) -> Option<Phase>
     ensures { result ≡ phase_in kind a b c }
 {
     if kind == 0 {
         if a > 255 {
-            return LoadedPhase::Nothing;
+            return None;
         }
         if c != 0 {
-            return LoadedPhase::Nothing;
+            return None;
         }
-        return LoadedPhase::Is(Phase::InType(Partial {
+        return Some(Phase::InType(Partial {
             have: a as u8,
             raw: b,
         }));
     }
     if kind == 1 {
         if b > 255 {
-            return LoadedPhase::Nothing;
+            return None;
         }
-        return LoadedPhase::Is(Phase::InLength {
+        return Some(Phase::InLength {
             ctype: a,
             part: Partial {
                 have: b as u8,
@@ -157,16 +133,16 @@ fn load_phase(kind: u64, a: u64, b: u64, c: u64) -> LoadedPhase
         });
     }
     if kind == 2 {
-        return LoadedPhase::Is(Phase::InValue {
+        return Some(Phase::InValue {
             ctype: a,
             length: b,
             left: c,
         });
     }
-    LoadedPhase::Nothing
+    None
 }
 
-// The role by its word.
+// The role by its word. No From here either: what a word means is the stored form's, not the type's.
 #[tactic(auto, unfolding(crate::specs::Words::role_in, crate::specs::Words::reader_mark))]
 fn role_in(word: u64) -> Role
     ensures { result ≡ role_in word }
@@ -206,7 +182,7 @@ fn words_of(reader: Reader) -> [u64; 8]
             limit,
             settings,
             0,
-            wide(part.have),
+            u64::from(part.have),
             part.raw,
             0,
             finished,
@@ -217,7 +193,7 @@ fn words_of(reader: Reader) -> [u64; 8]
             settings,
             1,
             ctype,
-            wide(part.have),
+            u64::from(part.have),
             part.raw,
             finished,
         ],

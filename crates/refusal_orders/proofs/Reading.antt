@@ -1,16 +1,10 @@
 -- Numbers on the wire, readers, listing, translation and the field's value are refused by their lists. Assumes nothing.
-use Rattle.walks.proofs.Words.{ℕ, ◌+◌, ◌-◌, ◌^◌, ◌≤◌, ◌<◌, arith, ◌≡◌, refl, subst, Bool, true, false, cond, ◌↔◌, List, [], ◌∷◌, length, eqb}
-use Rattle.refusal_orders.proofs.Terms.{Refusal, refusal, unknown_error_or_version, Order, Refuses, Unless, unless, when_true, unless_above, only, passes, stops, goes_on, stops_when, stops_unless, largest, Writing, refuses, write_at, write_varint, split, longest_address_value, Role, Endpoint, Intermediary, Phase, InType, InLength, InValue, Closed, Reader, Verdict, Accepted, Refused, opted_by, opted, Lent, output_verdict, addresses_verdict, lent_verdict, is_opening, open_of, is_makeable, verdict_of, fed_by, take_of, feed_by, feed_of, end_at, close_of, zero_one, no_true, Makes, makeable_exactly, look_of, listing_of, Translation, errors, versions, translated, nth-below, nth_past, unknown_error, unknown_version, known, VarintWriting, ReaderOpening, Feeding, Closing, Looking, Listing, Translating, FieldReading, in_use, field_of}
-use Rattle.wire.specs.declared.varint.Written.TheVariants as written
-use Rattle.capsule.specs.declared.reader.Opened.TheVariants as opened
-use Rattle.capsule.specs.declared.reader.FeedAnswer.TheVariants as fed_as
-use Rattle.capsule.specs.declared.reader.CloseAnswer.TheVariants as closed_as
-use Rattle.look.specs.declared.Looked.TheVariants as looked
-use Rattle.one_shot_listing.specs.declared.Listed.TheVariants as listed
-use Rattle.http_errors.specs.declared.translation.Translation.TheVariants as translation
-use Rattle.capsule_protocol.specs.declared.field.FieldValue.TheVariants as field
+use Rattle.std.specs.Prelude.{Option, Result, Ok, Err}
+use Rattle.capsule.specs.declared.reader.Ending.{Ending}
+use Rattle.http_errors.specs.declared.translation.Action.{Action}
+use Rattle.walks.proofs.Words.{ℕ, ◌+◌, ◌-◌, ◌^◌, ◌≤◌, ◌<◌, arith, ◌≡◌, refl, subst, Bool, true, false, cond, ◌↔◌, List, [], ◌∷◌, length}
+use Rattle.refusal_orders.proofs.Terms.{Refusal, refusal, unknown_error_or_version, Order, Refuses, Unless, unless, when_true, unless_above, only, passes, stops, goes_on, stops_when, stops_unless, largest, Writing, refuses, write_at, write_varint, split, longest_address_value, Role, Endpoint, Intermediary, Closed, Reader, opted_by, opted, Lent, output_verdict, addresses_verdict, lent_verdict, is_opening, open_of, is_makeable, verdict_of, fed_by, take_of, feed_by, feed_of, close_of, zero_one, no_true, Makes, makeable_exactly, look_of, listing_of, errors, versions, translated, nth-below, nth_past, unknown_error, unknown_version, known, VarintWriting, ReaderOpening, Feeding, Closing, Looking, Listing, Translating, FieldReading, in_use, field_of}
 use Rattle.refusal_orders.specs.Orders as order
-use Rattle.refusal_orders.proofs.Tables.{neither}
 
 -- a call with one refusal
 alone : {A : Type 0} (refuse : Refusal → A) {t : Bool} {x : A} {m : ℕ} {C : Type 0}
@@ -25,8 +19,8 @@ alone {A = A} refuse same u accepts = stops_unless (λ (a : A) (n : ℕ). a ≡ 
 pub varint-writing : VarintWriting
 unfolding write_varint write_at refuses largest
 varint-writing n out place =
-    let refused : Writing → ℕ → Type 0 = λ w k. w.answer ≡ written.Refused (refusal k) in
-    let number = only written.Refused (λ a b e. cc) in
+    let refused : Writing → ℕ → Type 0 = λ w k. w.answer ≡ Err (refusal k) in
+    let number = only {A = Result ℕ Refusal} Err (λ a b e. cc) in
     stops_unless refused (unless_above n (2 ^ 62 - 1)) (number 6)
     (λ e. stops_unless refused (unless_above _ _) (number 5) (λ f. passes (λ k d. zero_one (cc))))
 
@@ -37,17 +31,17 @@ unmakeable r = unless (is_makeable r) (makeable_exactly r)
 
 pub reader_opening_lem : ReaderOpening
 unfolding open_of is_opening
-reader_opening_lem role limit draft addresses = alone opened.Refused (λ a b e. cc) (unless_above limit 65535) (λ r e. zero_one (cc))
+reader_opening_lem role limit draft addresses = alone Err (λ a b e. cc) (unless_above limit 65535) (λ r e. zero_one (cc))
 
 module _ (r : Reader) (piece : List ℕ) (b : Lent) where
-  refused : Verdict → ℕ → Type 0
-  refused v n = (feed_by r piece b v).answer ≡ fed_as.Refused (refusal n)
+  refused : (Result (Unit {0}) Refusal) → ℕ → Type 0
+  refused v n = (feed_by r piece b v).answer ≡ Err (refusal n)
 
-  number : (m n : ℕ) → refused (Refused (refusal m)) n ↔ (n ≡ m)
+  number : (m n : ℕ) → refused (Err (refusal m)) n ↔ (n ≡ m)
   unfolding refused feed_by
-  number = only fed_as.Refused (λ a b e. cc)
+  number = only Err (λ a b e. cc)
 
-  accepted : Refuses (refused Accepted) []
+  accepted : Refuses (refused (Ok tt)) []
   unfolding refused feed_by take_of fed_by
   accepted = passes (λ n d. zero_one (cc))
 
@@ -58,7 +52,7 @@ module _ (r : Reader) (piece : List ℕ) (b : Lent) where
       let u = unless_above (length piece + 8) room in
       stops_unless refused (record { on = λ e. (refl, u.on e); off = λ e c. u.off e c.1 }) (number 5) (λ e. accepted)
 
-  by_addresses : (role : Role) (addresses : Bool) (room : ℕ) (v : Verdict) {rest : Order}
+  by_addresses : (role : Role) (addresses : Bool) (room : ℕ) (v : (Result (Unit {0}) Refusal)) {rest : Order}
       → Refuses (refused v) rest
       → Refuses (refused (addresses_verdict (opted_by role addresses) room v)) ((18, (role ≡ Endpoint) × (addresses ≡ true) × (room < 1024)) ∷ rest)
   unfolding addresses_verdict opted_by longest_address_value
@@ -77,29 +71,23 @@ feeding r piece b =
     (λ g. by_addresses r piece b r.opening.role r.opening.addresses (length b.addresses) _
     (by_output r piece b r.opening.role (length b.output)))))
 
-ends : (p : Phase) (n : ℕ) → end_at p ≡ closed_as.Refused (refusal n) → ⊥
-unfolding end_at
-ends (InType part) n = neither (λ a. a ≡ closed_as.Refused (refusal n)) (eqb part.have 0) (λ d. zero_one (cc)) (λ d. zero_one (cc))
-ends (InLength t part) n = λ e. zero_one (cc)
-ends (InValue t m left) n = λ e. zero_one (cc)
-
 pub closing : Closing
 unfolding close_of
 closing r =
-    let refused : Closed → ℕ → Type 0 = λ c n. c.answer ≡ closed_as.Refused (refusal n) in
-    let number = only closed_as.Refused (λ a b e. cc) in
+    let refused : Closed → ℕ → Type 0 = λ c n. c.answer ≡ Err (refusal n) in
+    let number = only {A = Result Ending Refusal} Err (λ a b e. cc) in
     stops_unless refused (unmakeable r) (number 1)
-    (λ m. stops_when refused (when_true r.finished) (number 2) (λ f. passes (ends r.phase)))
+    (λ m. stops_when refused (when_true r.finished) (number 2) (λ f. passes (λ n e. zero_one (cc))))
 
 pub looking : Looking
 unfolding look_of
-looking r = alone looked.Refused (λ a b e. cc) (unmakeable r) (λ w e. zero_one (cc))
+looking r = alone Err (λ a b e. cc) (unmakeable r) (λ w e. zero_one (cc))
 
 -- ---- one-shot listing
 
 pub listing : Listing
 unfolding listing_of
-listing s = alone listed.Refused (λ a b e. cc) (unless_above (length s) 4096) (λ r e. zero_one (cc))
+listing s = alone Err (λ a b e. cc) (unless_above (length s) 4096) (λ r e. zero_one (cc))
 
 -- ---- translation
 
@@ -115,17 +103,17 @@ translating error version =
     (λ b. unknown (unknown_error error version (nth_past errors error b)) (λ h. let l : error ≤ 7 = h.1 in omega arith)))
     (λ a. unknown (unknown_error error version (nth-below errors error a)) (λ h. let l : 1 ≤ error = h.0 in omega arith))
   where
-    unknown : translation.Refused unknown_error_or_version ≡ translated error version
+    unknown : Err unknown_error_or_version ≡ translated error version
         → ((1 ≤ error) × (error ≤ 7) × (1 ≤ version) × (version ≤ 3) → ⊥)
-        → Refuses (λ n. translated error version ≡ translation.Refused (refusal n)) (order.translation error version)
-    unknown e h = stops h (λ n. subst (λ (x : Translation). (x ≡ translation.Refused (refusal n)) ↔ (n ≡ 17)) e (only translation.Refused (λ a b e. cc) 17 n))
+        → Refuses (λ n. translated error version ≡ Err (refusal n)) (order.translation error version)
+    unknown e h = stops h (λ n. subst (λ (x : Result (Option Action) Refusal). (x ≡ Err (refusal n)) ↔ (n ≡ 17)) e (only Err (λ a b e. cc) 17 n))
 
 -- ---- the field's value
 
 pub field_reading : FieldReading
 unfolding field_of
-field_reading value = alone field.Refused (λ a b e. cc) (unless_above (length value) 1024) (read (in_use value))
+field_reading value = alone Err (λ a b e. cc) (unless_above (length value) 1024) (read (in_use value))
   where
-    read : (t : Bool) (r : Refusal) → cond t field.InUse field.Absent ≡ field.Refused r → ⊥
+    read : (t : Bool) (r : Refusal) → cond t (Ok true) (Ok false) ≡ Err r → ⊥
     read true r e = zero_one (cc)
     read false r e = zero_one (cc)

@@ -1,15 +1,15 @@
 -- The writers of capsules and frames are refused each by its list. Assumes nothing.
+use Rattle.std.specs.Prelude.{Some, Result, Ok, Err}
+use Rattle.wire.specs.declared.units.Quarter.{Quarter}
 use Rattle.walks.proofs.Words.{◌≡◌, refl, sym, ap, subst, ◌∙◌, ℕ, suc, ◌+◌, ◌/◌, ◌%◌, ◌<◌, ◌&&◌, not, arith, Bool, true, false, cond, true≢false, false≢true, ◌↔◌, List, [], ◌∷◌, length, get_or, length-append, leb, eqb, eq-eqb, eqb-true}
-use Rattle.refusal_orders.proofs.Terms.{Refusal, refusal, Order, Refuses, Unless, unless, unless_above, only, passes, goes_on, stops_unless, StreamId, IsRequestStream, encode, Writing, refuses, write_at, both, parted, StreamRecord, At, blank, send_open, has_semantics, GoodTable, InTable, Any, Table, is_bad, find, entry_of, at_place, zero_one, Sending, quarter, capsule_header, capsule_bytes, frame_bytes, agreed, sending_record, sending_entry, sending_of, put_capsule, put_frame, put_capsule_header, put_frame_header, capsule_written, frame_written, frame_header_written, write_capsule, write_frame, write_frame_header, assign, request, route, all_of, well_formed, is_whole, entries_in, id_fits, AddressCapsule, address_assign, address_request, route_advertisement, LargeId, has_large_id, type_of, value_of, write_of, capsule_of, write_value, write_addresses, write_routes, whole_exactly, large_id_exactly, TooShort, WritingRefuses, CapsuleWriting, FrameWriting, FrameHeaderWriting, DatagramWriting, DatagramHeaderWriting, AddressWriting}
-use Rattle.wire.specs.declared.varint.Written.TheVariants as written
-use Rattle.send_rights.specs.declared.rights.Sending.TheVariants as sending
+use Rattle.refusal_orders.proofs.Terms.{Refusal, refusal, Order, Refuses, Unless, unless, unless_above, only, passes, goes_on, stops_unless, StreamId, IsRequestStream, encode, Writing, refuses, write_at, both, parted, StreamRecord, blank, send_open, has_semantics, GoodTable, InTable, Any, Table, is_bad, find, entry_of, at_place, zero_one, quarter, capsule_header, capsule_bytes, frame_bytes, agreed, sending_record, sending_entry, sending_of, put_capsule, put_frame, put_capsule_header, put_frame_header, capsule_written, frame_written, frame_header_written, write_capsule, write_frame, write_frame_header, assign, request, route, all_of, well_formed, is_whole, entries_in, id_fits, AddressCapsule, address_assign, address_request, route_advertisement, LargeId, has_large_id, type_of, value_of, write_of, capsule_of, write_value, write_addresses, write_routes, whole_exactly, large_id_exactly, TooShort, WritingRefuses, CapsuleWriting, FrameWriting, FrameHeaderWriting, DatagramWriting, DatagramHeaderWriting, AddressWriting}
 use Rattle.refusal_orders.proofs.Tables.{asked, present}
 
 abbrev writes : Writing → ℕ → Type 0
-writes w n = w.answer ≡ written.Refused (refusal n)
+writes w n = w.answer ≡ Err (refusal n)
 
-number : (m n : ℕ) → (written.Refused (refusal m) ≡ written.Refused (refusal n)) ↔ (n ≡ m)
-number = only written.Refused (λ a b e. cc)
+number : (m n : ℕ) → (◌≡◌ {A = Result ℕ Refusal} (Err (refusal m)) (Err (refusal n))) ↔ (n ≡ m)
+number = only Err (λ a b e. cc)
 
 -- ---- what is put at a place
 
@@ -50,18 +50,18 @@ agreed_exactly ours peers = (
   λ h. both (eqb ours 1) (eqb peers 1) (eq-eqb ours 1 h.0) (eq-eqb peers 1 h.1),
 )
 
-module _ (w : Sending → Writing) (kept : (r : Refusal) → (w (sending.Refused r)).answer ≡ written.Refused r) (t : Table) (id : StreamId) where
-  abbrev sends : Sending → ℕ → Type 0
-  sends s n = (w s).answer ≡ written.Refused (refusal n)
+module _ (w : Result Quarter Refusal → Writing) (kept : (r : Refusal) → (w (Err r)).answer ≡ Err r) (t : Table) (id : StreamId) where
+  abbrev sends : Result Quarter Refusal → ℕ → Type 0
+  sends s n = (w s).answer ≡ Err (refusal n)
 
-  sent : (m n : ℕ) → sends (sending.Refused (refusal m)) n ↔ (n ≡ m)
+  sent : (m n : ℕ) → sends (Err (refusal m)) n ↔ (n ≡ m)
   sent m n = rw (kept (refusal m)) (number m n)
 
-  abbrev to : Sending
-  to = sending.To (quarter (id.0 / 4))
+  abbrev to : Result Quarter Refusal
+  to = Ok (quarter (id.0 / 4))
 
   -- a flag of the stream's record
-  flag_of_lem : (flag : StreamRecord → Bool) (i : ℕ) → is_bad t ≡ false → find (id.0 / 4) t ≡ At i
+  flag_of_lem : (flag : StreamRecord → Bool) (i : ℕ) → is_bad t ≡ false → find (id.0 / 4) t ≡ Some i
       → Unless (flag (get_or t i blank)) (InTable t (id.0 / 4) (λ r. flag r ≡ false))
   flag_of_lem flag i b e =
       let there = at_place t (id.0 / 4) (λ r. flag r ≡ false) i b e in
@@ -71,7 +71,7 @@ module _ (w : Sending → Writing) (kept : (r : Refusal) → (w (sending.Refused
   open_then rest = (12, InTable t (id.0 / 4) (λ r. send_open r ≡ false)) ∷ (13, InTable t (id.0 / 4) (λ r. has_semantics r ≡ false)) ∷ rest
 
   -- 12, 13
-  opened : {rest : Order} (i : ℕ) → is_bad t ≡ false → find (id.0 / 4) t ≡ At i → Refuses (sends to) rest
+  opened : {rest : Order} (i : ℕ) → is_bad t ≡ false → find (id.0 / 4) t ≡ Some i → Refuses (sends to) rest
       → Refuses (sends (sending_record (get_or t i blank) (quarter (id.0 / 4)) true)) (open_then rest)
   unfolding sending_record
   opened i b e more =
@@ -79,30 +79,30 @@ module _ (w : Sending → Writing) (kept : (r : Refusal) → (w (sending.Refused
       (λ o. stops_unless sends (flag_of_lem (λ r. has_semantics r) i b e) (sent 13) (λ s. more))
 
   -- 11, 12, 13
-  settled : {rest : Order} (ours peers i : ℕ) → is_bad t ≡ false → find (id.0 / 4) t ≡ At i → Refuses (sends to) rest
+  settled : {rest : Order} (ours peers i : ℕ) → is_bad t ≡ false → find (id.0 / 4) t ≡ Some i → Refuses (sends to) rest
       → Refuses (sends (sending_record (get_or t i blank) (quarter (id.0 / 4)) (agreed ours peers))) ((11, (ours ≡ 1) × (peers ≡ 1) → ⊥) ∷ open_then rest)
   unfolding sending_record
   settled ours peers i b e more = stops_unless sends (unless (agreed ours peers) (agreed_exactly ours peers)) (sent 11) (λ s. opened i b e more)
 
   -- 15, 7, 10, and then what is asked of the stream's record
   named : {rest : Order} (settings : Bool)
-      → ((i : ℕ) → is_bad t ≡ false → find (id.0 / 4) t ≡ At i → Refuses (sends (sending_record (get_or t i blank) (quarter (id.0 / 4)) settings)) rest)
+      → ((i : ℕ) → is_bad t ≡ false → find (id.0 / 4) t ≡ Some i → Refuses (sends (sending_record (get_or t i blank) (quarter (id.0 / 4)) settings)) rest)
       → Refuses (sends (sending_of t id settings)) ((15, GoodTable t → ⊥) ∷ (7, IsRequestStream id.0 → ⊥) ∷ (10, InTable t (id.0 / 4) Any → ⊥) ∷ rest)
   unfolding sending_of sending_entry
   named settings more =
-      asked sends sending.Refused sent t id (λ q. sending_entry (entry_of q.0 t) q settings)
-      (λ b. present sends sending.Refused sent t id (λ x. sending_entry x (quarter (id.0 / 4)) settings) (sent 10) (λ i e. more i b e))
+      asked sends Err sent t id (λ q. sending_entry (entry_of q.0 t) q settings)
+      (λ b. present sends Err sent t id (λ x. sending_entry x (quarter (id.0 / 4)) settings) (sent 10) (λ i e. more i b e))
 
 pub capsule-writing : CapsuleWriting
 unfolding write_capsule capsule_written refuses
 capsule-writing t id payload out place =
-    let w : Sending → Writing = λ s. capsule_written s payload out place in
+    let w : Result Quarter Refusal → Writing = λ s. capsule_written s payload out place in
     named w (λ r. refl) t id true (λ i b e. opened w (λ r. refl) t id i b e (datagram_writing_lem payload out place))
 
 pub frame-writing : FrameWriting
 unfolding write_frame frame_written put_frame frame_bytes refuses
 frame-writing t id ours peers path payload out place =
-    let w : Sending → Writing = λ s. frame_written s path payload out place in
+    let w : Result Quarter Refusal → Writing = λ s. frame_written s path payload out place in
     let q = id.0 / 4 in
     let l = length-append (encode q) payload in
     named w (λ r. refl) t id (agreed ours peers) (λ i b e. settled w (λ r. refl) t id ours peers i b e
@@ -112,7 +112,7 @@ frame-writing t id ours peers path payload out place =
 pub frame-header-writing : FrameHeaderWriting
 unfolding write_frame_header frame_header_written put_frame_header refuses
 frame-header-writing t id ours peers path n out place =
-    let w : Sending → Writing = λ s. frame_header_written s path n out place in
+    let w : Result Quarter Refusal → Writing = λ s. frame_header_written s path n out place in
     let q = id.0 / 4 in
     named w (λ r. refl) t id (agreed ours peers) (λ i b e. settled w (λ r. refl) t id ours peers i b e
     (fits n (length (encode q) + n) path (encode q) out place))

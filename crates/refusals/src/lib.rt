@@ -1,7 +1,9 @@
 // Refusals, by their numbers in documents 01 and 02.
 #![tactic(auto)]
 
-// A refused call changed nothing. The number says why.
+// A refused call changed nothing. The number says why. A number with constants and no enum: the orders of refusals are
+// laws of every number (refusal_orders), and constants on their type are a form that the project's scope names
+// (docs/PROMISES.md).
 #[derive(Clone, Copy)]
 pub struct Refusal(pub u8);
 

@@ -6,23 +6,24 @@ ghost use Rattle.capsule.specs.Calls.{lent};
 ghost use Rattle.capsule.specs.Reader.{feeding, feed_of, closing, close_of};
 ghost use Rattle.host.specs.Connections.{SameBeside};
 
-use capsule::reader::{CloseAnswer, FeedAnswer, Opened, Reader};
+use capsule::reader::{Advance, Ending, Reader};
 use host::reader::{Connection, close_connection, feed_connection};
 use opening::Role;
-use show::{number, word};
-use show_reader::{consumed, ending, feeding, refused};
+use refusals::Refusal;
+use show_reader::{Closing, Refused, consumed, feeding};
 use std::io;
 
 // A connection after a feeding and, of that, after a close, with both answers.
 #[derive(Clone, Copy)]
 struct Served {
     connection: Connection,
-    answer: FeedAnswer,
+    answer: Result<Advance, Refusal>,
     closed: Connection,
-    ending: CloseAnswer,
+    ending: Result<Ending, Refusal>,
 }
 
-// Feeds a connection and then closes it, both in place: callers of this hold no reference to a record.
+// Feeds a connection and then closes it, both in place: callers of this hold no reference to a record. What is lent
+// stays arguments, as in the call of `host` that this program shows.
 fn serve(
     connection: Connection,
     piece: &[u8],
@@ -39,9 +40,9 @@ fn serve(
     let ending = close_connection(&mut own);
     Served {
         connection: fed,
-        answer: answer,
+        answer,
         closed: own,
-        ending: ending,
+        ending,
     }
 }
 
@@ -55,12 +56,12 @@ fn feed(
 ) -> io::Result<Served> {
     let mut output = [0u8; 0];
     let served = serve(connection, piece, gathering, addresses, &mut output);
-    let answer = served.answer;
-    feeding(rt, answer, gathering, addresses, &output, b" ")?;
+    feeding(rt, served.answer, gathering, addresses, &output, " ")?;
     Ok(served)
 }
 
-// Feeds a piece until it is used up. The two buffers for values are the same in every feeding.
+// Feeds a piece until it is used up. The two buffers for values are the same in every feeding. Each turn goes on
+// behind what the reader consumed, which no iterator knows before.
 fn read(
     rt: &impl Print,
     connection: Connection,
@@ -68,22 +69,18 @@ fn read(
     gathering: &mut [u8],
     addresses: &mut [u8],
 ) -> io::Result<Connection> {
-    let mut c = connection;
-    let mut at = 0;
-    while at < piece.len() {
-        let served = feed(rt, c, &piece[at..], gathering, addresses)?;
-        c = served.connection;
-        let answer = served.answer;
-        let n = consumed(answer);
-        if n == 0 {
-            return Ok(c);
+    let mut connection = connection;
+    let mut rest = piece;
+    while !rest.is_empty() {
+        let served = feed(rt, connection, rest, gathering, addresses)?;
+        connection = served.connection;
+        let n = consumed(served.answer);
+        if n == 0 || n > rest.len() {
+            break;
         }
-        if n > piece.len() - at {
-            return Ok(c);
-        }
-        at += n;
+        rest = &rest[n..];
     }
-    Ok(c)
+    Ok(connection)
 }
 
 // A close, shown: an empty piece before it changes nothing.
@@ -95,15 +92,13 @@ fn close(
 ) -> io::Result<()> {
     let mut output = [0u8; 0];
     let served = serve(connection, b"", gathering, addresses, &mut output);
-    let answer = served.ending;
-    word(rt, b" ")?;
-    ending(rt, answer)
+    print!(rt; " {}", Closing(served.ending))
 }
 
 fn connected(reader: Reader) -> Connection {
     Connection {
         id: 7,
-        reader: reader,
+        reader,
         deadline: 30,
     }
 }
@@ -116,13 +111,9 @@ fn read_two(
     second: &[u8],
     addresses: &mut [u8],
 ) -> io::Result<()> {
-    let opened = Reader::open(Role::Endpoint, 1200, false, opt_in);
-    match opened {
-        Opened::Refused(why) => {
-            word(rt, b" ")?;
-            refused(rt, why)
-        }
-        Opened::Ready(reader) => {
+    match Reader::open(Role::Endpoint, 1200, false, opt_in) {
+        Err(why) => print!(rt; " {}", Refused(why)),
+        Ok(reader) => {
             let mut gathering = [0u8; 1200];
             let c = read(rt, connected(reader), first, &mut gathering, addresses)?;
             let d = read(rt, c, second, &mut gathering, addresses)?;
@@ -134,57 +125,41 @@ fn read_two(
 // The same as a line of its own, behind a name.
 fn line(
     rt: &impl Print,
-    name: &[u8],
+    name: &str,
     opt_in: bool,
     first: &[u8],
     second: &[u8],
     addresses: &mut [u8],
 ) -> io::Result<()> {
-    word(rt, name)?;
+    print!(rt; "{name}:")?;
     read_two(rt, opt_in, first, second, addresses)?;
-    word(rt, b"\n")
-}
-
-fn cut_at(rt: &impl Print, k: usize, opt_in: bool, first: &[u8], rest: &[u8]) -> io::Result<()> {
-    word(rt, b"cut ")?;
-    number(rt, k as u64)?;
-    let mut addresses = [0u8; 1024];
-    line(rt, b":", opt_in, first, rest, &mut addresses)
+    println!(rt)
 }
 
 fn cut_everywhere(rt: &impl Print, opt_in: bool, stream: &[u8]) -> io::Result<()> {
-    let mut k = 0;
-    while k <= stream.len() {
-        cut_at(rt, k, opt_in, &stream[0..k], &stream[k..])?;
-        k += 1;
+    for k in 0..=stream.len() {
+        let (first, rest) = stream.split_at(k);
+        let mut addresses = [0u8; 1024];
+        print!(rt; "cut {k}:")?;
+        read_two(rt, opt_in, first, rest, &mut addresses)?;
+        println!(rt)?;
     }
     Ok(())
 }
 
 // The first capsule, read by a reader that lies in a record.
 fn in_a_record(rt: &impl Print, piece: &[u8]) -> io::Result<()> {
-    word(rt, b"in a record:")?;
-    let opened = Reader::open(Role::Endpoint, 1200, false, true);
-    match opened {
-        Opened::Refused(why) => {
-            word(rt, b" ")?;
-            refused(rt, why)?;
-        }
-        Opened::Ready(reader) => {
+    print!(rt; "in a record:")?;
+    match Reader::open(Role::Endpoint, 1200, false, true) {
+        Err(why) => println!(rt; " {}", Refused(why)),
+        Ok(reader) => {
             let mut gathering = [0u8; 1200];
             let mut addresses = [0u8; 1024];
             let served = feed(rt, connected(reader), piece, &mut gathering, &mut addresses)?;
-            let last = served.closed;
-            word(rt, b" id ")?;
-            number(rt, last.id)?;
-            word(rt, b" deadline ")?;
-            number(rt, last.deadline)?;
-            let answer = served.ending;
-            word(rt, b" ")?;
-            ending(rt, answer)?;
+            let Connection { id, deadline, .. } = served.closed;
+            println!(rt; " id {id} deadline {deadline} {}", Closing(served.ending))
         }
     }
-    word(rt, b"\n")
 }
 
 // A malformed capsule finishes the reader: what is fed after it, and the close, are refused.
@@ -192,7 +167,7 @@ fn malformed(rt: &impl Print) -> io::Result<()> {
     let mut addresses = [0u8; 1024];
     line(
         rt,
-        b"malformed:",
+        "malformed",
         true,
         b"\x01\x07\x00\x05\x00\x00\x00\x00\x00\x17\x00",
         b"\x17\x00",
@@ -200,7 +175,7 @@ fn malformed(rt: &impl Print) -> io::Result<()> {
     )?;
     line(
         rt,
-        b"no request:",
+        "no request",
         true,
         b"\x17\x00\x02",
         b"\x00\x17\x00",
@@ -208,7 +183,7 @@ fn malformed(rt: &impl Print) -> io::Result<()> {
     )?;
     line(
         rt,
-        b"too long:",
+        "too long",
         true,
         b"\x01\x44",
         b"\x01\x00",
@@ -221,7 +196,7 @@ fn short(rt: &impl Print) -> io::Result<()> {
     let mut addresses = [0u8; 1023];
     line(
         rt,
-        b"short, opted in:",
+        "short, opted in",
         true,
         b"\x03",
         b"\x00",
@@ -229,7 +204,7 @@ fn short(rt: &impl Print) -> io::Result<()> {
     )?;
     line(
         rt,
-        b"short, not opted in:",
+        "short, not opted in",
         false,
         b"\x03",
         b"\x00",

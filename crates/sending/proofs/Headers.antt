@@ -1,9 +1,9 @@
 -- A header alone, beside the whole capsule or frame: both are written or both are refused, but for the room. Assumes nothing.
+use Rattle.std.specs.Prelude.{Some, Result, Ok, Err}
 use Rattle.walks.proofs.Words.{◌≡◌, refl, sym, ap, subst, ◌∙◌, ℕ, ◌+◌, ◌≤◌, arith, Bool, true, false, cond, List, [], ◌++◌, length, length-append, sets, leb, le-leb, leb-true}
-use Rattle.sending.proofs.Terms.{Refusal, output_too_short, number_too_large, frame_too_long, Quarter, Is, Refused, Wrote, least_size, encode, length-encode, shortest, Writing, writing, refuses, write_at, sets-append, Sending, capsule_header, capsule_bytes, frame_bytes, agreed, sending_of, sending_to, put_capsule, put_capsule_header, put_frame, put_frame_header, frame_written, frame_header_written, write_frame, write_frame_header, HeadersShortest, HeaderThenPayload, HeaderRefused, HeaderAlone}
-use Rattle.send_rights.specs.declared.rights.Sending.TheVariants as sending
+use Rattle.sending.proofs.Terms.{Refusal, output_too_short, number_too_large, frame_too_long, Quarter, least_size, encode, length-encode, shortest, Writing, writing, refuses, write_at, sets-append, capsule_header, capsule_bytes, frame_bytes, agreed, sending_of, sending_to, put_capsule, put_capsule_header, put_frame, put_frame_header, frame_written, frame_header_written, write_frame, write_frame_header, HeadersShortest, HeaderThenPayload, HeaderRefused, HeaderAlone}
 
-no_both {ℓ} : {X : Type ℓ} {r : Refusal} {k : ℕ} {out after : List ℕ} → writing (Refused r) out ≡ writing (Wrote k) after → X
+no_both {ℓ} : {X : Type ℓ} {r : Refusal} {k : ℕ} {out after : List ℕ} → writing (Err r) out ≡ writing (Ok k) after → X
 no_both e = absurd (let a = ap (λ (w : Writing). w.answer) e in let m : ◌≡◌ {A = ℕ} 0 1 = cc in let n : ⊥ = omega arith in n)
 
 -- w writes the head and the payload, and h the head; or both refuse
@@ -19,10 +19,10 @@ module _ (head payload out : List ℕ) (place : ℕ) where
   -- ---- what was written
 
   abbrev Then : Writing → ℕ → List ℕ → Type 0
-  Then h k after = (h ≡ writing (Wrote (length head)) (sets out place head)) × (k ≡ length head + length payload) × (after ≡ sets (sets out place head) (place + length head) payload)
+  Then h k after = (h ≡ writing (Ok (length head)) (sets out place head)) × (k ≡ length head + length payload) × (after ≡ sets (sets out place head) (place + length head) payload)
 
   fitting : (k : ℕ) (after : List ℕ) (b : Bool) → leb (place + length (head ++ payload)) (length out) ≡ b
-      → cond b (writing (Wrote (length (head ++ payload))) (sets out place (head ++ payload))) (refuses output_too_short out) ≡ writing (Wrote k) after → Then (write_at head out place) k after
+      → cond b (writing (Ok (length (head ++ payload))) (sets out place (head ++ payload))) (refuses output_too_short out) ≡ writing (Ok k) after → Then (write_at head out place) k after
   unfolding refuses write_at
   fitting k after false l e = no_both e
   fitting k after true l e =
@@ -35,7 +35,7 @@ module _ (head payload out : List ℕ) (place : ℕ) where
         ap (λ (w : Writing). w.output) (sym e) ∙ sym (sets-append out place head payload),
       )
 
-  then_payload : (w h : Writing) (k : ℕ) (after : List ℕ) → Both head payload out place w h → w ≡ writing (Wrote k) after → Then h k after
+  then_payload : (w h : Writing) (k : ℕ) (after : List ℕ) → Both head payload out place w h → w ≡ writing (Ok k) after → Then h k after
   unfolding refuses
   then_payload w h k after (refused r x y) e = no_both (sym x ∙ e)
   then_payload w h k after (written x y) e =
@@ -48,7 +48,7 @@ module _ (head payload out : List ℕ) (place : ℕ) where
   unfolding write_at refuses
   short bytes why n e = go (leb (place + length bytes) (length out)) e
     where
-      go : (b : Bool) → cond b (writing (Wrote (length bytes)) (sets out place bytes)) (writing (Refused output_too_short) out) ≡ writing (Refused why) out → ⊥
+      go : (b : Bool) → cond b (writing (Ok (length bytes)) (sets out place bytes)) (writing (Err output_too_short) out) ≡ writing (Err why) out → ⊥
       go true z = no_both (sym z)
       go false z = n (let a = ap (λ (w : Writing). w.answer) z in let s : output_too_short ≡ why = cc in sym s)
 
@@ -59,29 +59,29 @@ module _ (head payload out : List ℕ) (place : ℕ) where
 -- ---- capsules and frames
 
 -- what stands before the payload
-head_of : Sending → List ℕ
-head_of (sending.Refused r) = []
-head_of (sending.To q) = encode q.0
+head_of : Result Quarter Refusal → List ℕ
+head_of (Err r) = []
+head_of (Ok q) = encode q.0
 
 module _ (payload out : List ℕ) (place : ℕ) where
   capsules : Both (capsule_header (length payload)) payload out place (put_capsule payload out place) (put_capsule_header (length payload) out place)
   unfolding put_capsule put_capsule_header capsule_bytes
   capsules = unless _ _ out place (leb (length payload) 65535) number_too_large _ _ (written refl refl)
 
-  frames : (s : Sending) (path : ℕ) → Both (head_of s) payload out place (frame_written s path payload out place) (frame_header_written s path (length payload) out place)
+  frames : (s : Result Quarter Refusal) (path : ℕ) → Both (head_of s) payload out place (frame_written s path payload out place) (frame_header_written s path (length payload) out place)
   unfolding frame_written frame_header_written put_frame put_frame_header frame_bytes head_of
-  frames (sending.Refused r) path = refused r refl refl
-  frames (sending.To q) path =
+  frames (Err r) path = refused r refl refl
+  frames (Ok q) path =
       unless _ _ out place (leb (length payload) 65535) number_too_large _ _
       (subst (λ (m : ℕ). Both (encode q.0) payload out place (cond (leb m path) (write_at (encode q.0 ++ payload) out place) (refuses frame_too_long out)) (cond (leb (length (encode q.0) + length payload) path) (write_at (encode q.0) out place) (refuses frame_too_long out)))
       (sym (length-append (encode q.0) payload))
       (unless _ _ out place (leb (length (encode q.0) + length payload) path) frame_too_long _ _ (written refl refl)))
 
   -- where a frame was written the head is the quarter
-  head_is : (s : Sending) (path : ℕ) (k : ℕ) (after : List ℕ) (q : Quarter) → frame_written s path payload out place ≡ writing (Wrote k) after → ((p : Quarter) → s ≡ sending.To p → p ≡ q) → head_of s ≡ encode q.0
+  head_is : (s : Result Quarter Refusal) (path : ℕ) (k : ℕ) (after : List ℕ) (q : Quarter) → frame_written s path payload out place ≡ writing (Ok k) after → ((p : Quarter) → s ≡ Ok p → p ≡ q) → head_of s ≡ encode q.0
   unfolding frame_written refuses head_of
-  head_is (sending.Refused r) path k after q e to = no_both e
-  head_is (sending.To p) path k after q e to = ap (λ (p : Quarter). encode p.0) (to p refl)
+  head_is (Err r) path k after q e to = no_both e
+  head_is (Ok p) path k after q e to = ap (λ (p : Quarter). encode p.0) (to p refl)
 
 pub header_then_payload : HeaderThenPayload
 unfolding write_frame write_frame_header
@@ -89,7 +89,7 @@ header_then_payload payload out after place k = (
   λ e. then_payload _ payload out place _ _ k after (capsules payload out place) e,
   λ t id ours peers path q is e.
       let s = sending_of t id (agreed ours peers) in
-      let same : head_of s ≡ encode q.0 = head_is payload out place s path k after q e (λ p to. let z : Is p ≡ Is q = sym (sending_to t id (agreed ours peers) p to) ∙ is in cc) in
+      let same : head_of s ≡ encode q.0 = head_is payload out place s path k after q e (λ p to. let z : Some p ≡ Some q = sym (sending_to t id (agreed ours peers) p to) ∙ is in cc) in
       subst (λ (head : List ℕ). Then head payload out place (frame_header_written s path (length payload) out place) k after) same
       (then_payload _ payload out place _ _ k after (frames payload out place s path) e),
 )

@@ -1,19 +1,16 @@
 -- What holds of writing: each claim is a type here, and is proved in proofs/ under its name in lower case with dashes.
-use Rattle.std.specs.Prelude.{ℕ, ◌+◌, ◌/◌, ◌≤◌, ◌≡◌, List, length}
+use Rattle.short_forms.specs.Short.{varint_of}
+use Rattle.std.specs.Prelude.{ℕ, ◌+◌, ◌/◌, ◌≤◌, ◌≡◌, List, length, Some, Ok}
 use Rattle.std.proofs.lemmas.List.Edits.{sets}
 use Rattle.refusals.specs.declared.Refusal.{Refusal}
 use Rattle.refusals.specs.Numbers.{output_too_short}
 use Rattle.wire.specs.declared.units.StreamId.{StreamId}
 use Rattle.wire.specs.declared.units.Quarter.{Quarter}
-use Rattle.wire.specs.declared.units.QuarterOf.TheVariants.{Is}
-use Rattle.wire.specs.declared.varint.Varint.TheVariants.{Whole}
-use Rattle.wire.specs.declared.varint.Written.TheVariants as written
 use Rattle.wire.specs.Varint.{read_varint, encode}
 use Rattle.wire.specs.Units.{quarter_of}
 use Rattle.wire.specs.Claims.{Leaves}
 use Rattle.wire.specs.Writing.{writing, refuses, write_at}
 use Rattle.stream_records.specs.Tables.{Table}
-use Rattle.send_rights.specs.declared.rights.Sending.TheVariants as sending
 use Rattle.send_rights.specs.Rights.{agreed, sending_of}
 use Rattle.sending.specs.Sending.{capsule_header, capsule_bytes, frame_bytes, put_capsule, put_capsule_header, write_capsule, write_frame, write_frame_header}
 
@@ -21,7 +18,7 @@ use Rattle.sending.specs.Sending.{capsule_header, capsule_bytes, frame_bytes, pu
 abbrev pub HeadersShortest : Type 0
 HeadersShortest =
     (n size : ℕ) (s payload : List ℕ)
-    → read_varint s ≡ Whole n size
+    → read_varint s ≡ Some (varint_of n size)
     → (length payload ≡ n → length (capsule_bytes payload) ≤ 1 + (size + length payload)) × (length (frame_bytes n payload) ≤ size + length payload)
 
 -- what each writer leaves in the output, whatever it answers
@@ -40,13 +37,13 @@ WritersLeave =
 abbrev pub HeaderThenPayload : Type 0
 HeaderThenPayload =
     (payload out after : List ℕ) (place k : ℕ)
-    → (put_capsule payload out place ≡ writing (written.Wrote k) after
+    → (put_capsule payload out place ≡ writing (Ok k) after
     → let n = length (capsule_header (length payload)) in
-    (put_capsule_header (length payload) out place ≡ writing (written.Wrote n) (sets out place (capsule_header (length payload)))) × (k ≡ n + length payload)
+    (put_capsule_header (length payload) out place ≡ writing (Ok n) (sets out place (capsule_header (length payload)))) × (k ≡ n + length payload)
     × (after ≡ sets (sets out place (capsule_header (length payload))) (place + n) payload))
-    × ((t : Table) (id : StreamId) (ours peers path : ℕ) (q : Quarter) → quarter_of id ≡ Is q → write_frame t id ours peers path payload out place ≡ writing (written.Wrote k) after
+    × ((t : Table) (id : StreamId) (ours peers path : ℕ) (q : Quarter) → quarter_of id ≡ Some q → write_frame t id ours peers path payload out place ≡ writing (Ok k) after
     → let n = length (encode q.0) in
-    (write_frame_header t id ours peers path (length payload) out place ≡ writing (written.Wrote n) (sets out place (encode q.0))) × (k ≡ n + length payload)
+    (write_frame_header t id ours peers path (length payload) out place ≡ writing (Ok n) (sets out place (encode q.0))) × (k ≡ n + length payload)
     × (after ≡ sets (sets out place (encode q.0)) (place + n) payload))
 
 -- a header is refused with a number other than 5 exactly if the whole writer is
@@ -64,5 +61,5 @@ abbrev pub HeaderAlone : Type 0
 HeaderAlone =
     (n : ℕ) (out : List ℕ) (place : ℕ) → n ≤ 65535
     → (put_capsule_header n out place ≡ write_at (capsule_header n) out place)
-    × ((t : Table) (id : StreamId) (ours peers path : ℕ) (q : Quarter) → sending_of t id (agreed ours peers) ≡ sending.To q → length (encode q.0) + n ≤ path
+    × ((t : Table) (id : StreamId) (ours peers path : ℕ) (q : Quarter) → sending_of t id (agreed ours peers) ≡ Ok q → length (encode q.0) + n ≤ path
     → write_frame_header t id ours peers path n out place ≡ write_at (encode q.0) out place)

@@ -1,12 +1,12 @@
 -- Capsules and frames written (document 01, "Writers, settings, messages").
-use Rattle.std.specs.Prelude.{ℕ, ◌+◌, true, cond, List, ◌∷◌, ◌++◌, length, leb}
+use Rattle.refusals.specs.declared.Refusal.{Refusal}
+use Rattle.wire.specs.declared.units.Quarter.{Quarter}
+use Rattle.std.specs.Prelude.{ℕ, ◌+◌, true, cond, List, ◌∷◌, ◌++◌, length, leb, Result, Ok, Err}
 use Rattle.refusals.specs.Numbers.{number_too_large, frame_too_long}
 use Rattle.wire.specs.declared.units.StreamId.{StreamId}
 use Rattle.wire.specs.Varint.{encode}
 use Rattle.wire.specs.Writing.{Writing, refuses, write_at}
 use Rattle.stream_records.specs.Tables.{Table}
-use Rattle.send_rights.specs.declared.rights.Sending.{Sending}
-use Rattle.send_rights.specs.declared.rights.Sending.TheVariants.{Refused, To}
 use Rattle.send_rights.specs.Rights.{agreed, sending_of}
 
 -- type 00 and the shortest length, of n bytes (RFC 9297, section 3.5)
@@ -40,17 +40,17 @@ unfoldable pub put_frame_header : ℕ → ℕ → ℕ → List ℕ → ℕ → W
 put_frame_header q path n out place =
     cond (leb n 65535) (cond (leb (length (encode q) + n) path) (write_at (encode q) out place) (refuses frame_too_long out)) (refuses number_too_large out)
 
-unfoldable pub capsule_written : Sending → List ℕ → List ℕ → ℕ → Writing
-capsule_written (Refused r) payload out place = refuses r out
-capsule_written (To q) payload out place = put_capsule payload out place
+unfoldable pub capsule_written : Result Quarter Refusal → List ℕ → List ℕ → ℕ → Writing
+capsule_written (Err r) payload out place = refuses r out
+capsule_written (Ok q) payload out place = put_capsule payload out place
 
-unfoldable pub frame_written : Sending → ℕ → List ℕ → List ℕ → ℕ → Writing
-frame_written (Refused r) path payload out place = refuses r out
-frame_written (To q) path payload out place = put_frame q.0 path payload out place
+unfoldable pub frame_written : Result Quarter Refusal → ℕ → List ℕ → List ℕ → ℕ → Writing
+frame_written (Err r) path payload out place = refuses r out
+frame_written (Ok q) path payload out place = put_frame q.0 path payload out place
 
-unfoldable pub frame_header_written : Sending → ℕ → ℕ → List ℕ → ℕ → Writing
-frame_header_written (Refused r) path n out place = refuses r out
-frame_header_written (To q) path n out place = put_frame_header q.0 path n out place
+unfoldable pub frame_header_written : Result Quarter Refusal → ℕ → ℕ → List ℕ → ℕ → Writing
+frame_header_written (Err r) path n out place = refuses r out
+frame_header_written (Ok q) path n out place = put_frame_header q.0 path n out place
 
 unfoldable pub write_capsule : Table → StreamId → List ℕ → List ℕ → ℕ → Writing
 write_capsule t id payload out place = capsule_written (sending_of t id true) payload out place

@@ -1,157 +1,167 @@
 // A payload written as a DATAGRAM capsule, or as a QUIC DATAGRAM frame's payload.
-ghost use Rattle.std.specs.Prelude.{◌≡◌, ◌++◌, true, ◌+◌, ◌≤◌, length};
+ghost use Rattle.std.specs.Prelude.{◌≡◌, ◌++◌, ◌+◌, ◌≤◌, ◌↔◌, IsTrue, length};
 ghost use Rattle.std.proofs.lemmas.List.Edits.{sets};
 ghost use Rattle.wire.specs.Varint.{largest, least_size, encode};
 ghost use Rattle.wire.specs.Units.{largest_quarter};
 ghost use Rattle.wire.specs.Writing.{writing};
-ghost use Rattle.sending.specs.Sending.{put_capsule, put_frame, put_capsule_header, put_frame_header};
-ghost use Rattle.sending.specs.Code.{capsule_by, frame_by, frame_header_by};
+ghost use Rattle.sending.specs.Sending.{put_capsule, put_capsule_header};
+ghost use Rattle.sending.specs.Code.{capsule_by, frame_by, frame_header_by, put_capsule_by, put_frame_by};
 
 use opening::{Kind, Opening};
 use refusals::Refusal;
-use send_rights::rights::{Sending, are_agreed, send_to};
-use stream_records::answers::Lookup;
+use send_rights::rights::{are_agreed, send_to};
+use stream_records::answers::Entry;
 use wire::units::{Quarter, StreamId};
-use wire::varint::{Written, least_size, write_varint};
+use wire::varint::{least_size, write_varint};
 
-// Writes a DATAGRAM capsule without a table. That the stream is open and has semantics for datagrams is the caller's to know.
-pub fn write_datagram(payload: &[u8], out: &mut [u8], place: usize) -> Written
+// What a frame is sent by: both settings, and the path size.
+#[repr(C)]
+#[derive(Clone, Copy)]
+pub struct FrameTerms {
+    pub our_setting: u64,
+    pub peer_setting: u64,
+    pub path_size: u64,
+}
+
+// Writes a DATAGRAM capsule without a table. That the stream is open and has semantics for datagrams is the caller's
+// to know.
+pub fn write_datagram(payload: &[u8], out: &mut [u8], place: usize) -> Result<usize, Refusal>
     ensures { writing result out.new ≡ put_capsule payload.now out.old place }
 {
-    let n = payload.len();
-    if n > (Opening::MAX_LIMIT as usize) {
-        return Written::Refused(Refusal::NUMBER_TOO_LARGE);
-    }
-    let need = 1 + least_size(n as u64) + n;
-    if place > out.len() {
-        return Written::Refused(Refusal::OUTPUT_TOO_SHORT);
-    }
-    if out.len() - place < need {
-        return Written::Refused(Refusal::OUTPUT_TOO_SHORT);
-    }
-    out[place] = Kind::DATAGRAM as u8;
-    put(n as u64, payload, out, place + 1);
-    Written::Wrote(need)
+    put_capsule(payload.len() as u64, payload, out, place)
 }
 
 // Writes the bytes of such a capsule that stand before a payload of so many bytes.
-pub fn write_datagram_header(length: u64, out: &mut [u8], place: usize) -> Written
+pub fn write_datagram_header(length: u64, out: &mut [u8], place: usize) -> Result<usize, Refusal>
     ensures { writing result out.new ≡ put_capsule_header length out.old place }
 {
-    if length > Opening::MAX_LIMIT {
-        return Written::Refused(Refusal::NUMBER_TOO_LARGE);
-    }
-    let need = 1 + least_size(length);
-    if place > out.len() {
-        return Written::Refused(Refusal::OUTPUT_TOO_SHORT);
-    }
-    if out.len() - place < need {
-        return Written::Refused(Refusal::OUTPUT_TOO_SHORT);
-    }
-    out[place] = Kind::DATAGRAM as u8;
-    write_varint(length, out, place + 1);
-    Written::Wrote(need)
+    put_capsule(length, &[], out, place)
 }
 
+#[tactic(auto, unfolding(crate::specs::Code::capsule_by, crate::specs::Sending::capsule_written, wire::specs::Writing::refuses))]
 pub fn capsule_by(
-    lookup: Lookup,
+    lookup: Result<Option<Entry>, Refusal>,
     id: StreamId,
     payload: &[u8],
     out: &mut [u8],
     place: usize,
-) -> Written
+) -> Result<usize, Refusal>
     ensures { writing result out.new ≡ capsule_by lookup id payload.now out.old place }
 {
-    match send_to(lookup, id, true) {
-        Sending::Refused(why) => Written::Refused(why),
-        Sending::To(_) => write_datagram(payload, out, place),
-    }
+    send_to(lookup, id, true)?;
+    write_datagram(payload, out, place)
 }
 
+#[tactic(auto, using(send_rights::proofs::Deciding::sent_bounded, crate::proofs::Putting::frame_whole), unfolding(crate::specs::Code::frame_by, crate::specs::Sending::frame_written, wire::specs::Writing::refuses))]
 pub fn frame_by(
-    lookup: Lookup,
+    lookup: Result<Option<Entry>, Refusal>,
     id: StreamId,
-    ours: u64,
-    peers: u64,
-    path: u64,
+    terms: FrameTerms,
     payload: &[u8],
     out: &mut [u8],
     place: usize,
-) -> Written
-    ensures { writing result out.new ≡ frame_by lookup id ours peers path payload.now out.old place }
+) -> Result<usize, Refusal>
+    ensures { writing result out.new ≡ frame_by lookup id terms.our_setting terms.peer_setting terms.path_size payload.now out.old place }
 {
-    match send_to(lookup, id, are_agreed(ours, peers)) {
-        Sending::Refused(why) => Written::Refused(why),
-        Sending::To(quarter) => put_frame(quarter, path, payload, out, place),
-    }
+    let quarter = send_to(
+        lookup,
+        id,
+        are_agreed(terms.our_setting, terms.peer_setting),
+    )?;
+    put_frame(
+        quarter,
+        terms.path_size,
+        payload.len() as u64,
+        payload,
+        out,
+        place,
+    )
 }
 
+#[tactic(auto, using(send_rights::proofs::Deciding::sent_bounded, crate::proofs::Putting::frame_header_alone), unfolding(crate::specs::Code::frame_header_by, crate::specs::Sending::frame_header_written, wire::specs::Writing::refuses))]
 pub fn frame_header_by(
-    lookup: Lookup,
+    lookup: Result<Option<Entry>, Refusal>,
     id: StreamId,
-    ours: u64,
-    peers: u64,
-    path: u64,
+    terms: FrameTerms,
     length: u64,
     out: &mut [u8],
     place: usize,
-) -> Written
-    ensures { writing result out.new ≡ frame_header_by lookup id ours peers path length out.old place }
+) -> Result<usize, Refusal>
+    ensures { writing result out.new ≡ frame_header_by lookup id terms.our_setting terms.peer_setting terms.path_size length out.old place }
 {
-    match send_to(lookup, id, are_agreed(ours, peers)) {
-        Sending::Refused(why) => Written::Refused(why),
-        Sending::To(quarter) => put_frame_header(quarter, path, length, out, place),
-    }
+    let quarter = send_to(
+        lookup,
+        id,
+        are_agreed(terms.our_setting, terms.peer_setting),
+    )?;
+    put_frame(quarter, terms.path_size, length, &[], out, place)
 }
 
-// The shortest varint of a number and then the payload, at a place where both fit.
+// A capsule's header, and then the payload, or nothing where the header is to stand alone.
+fn put_capsule(
+    payload_length: u64,
+    payload: &[u8],
+    out: &mut [u8],
+    place: usize,
+) -> Result<usize, Refusal>
+    requires { length payload.now ≤ payload_length }
+    ensures { writing result out.new ≡ put_capsule_by payload_length payload.now out.old place }
+{
+    if payload_length > Opening::MAX_LIMIT {
+        return Err(Refusal::NUMBER_TOO_LARGE);
+    }
+    let need = 1 + least_size(payload_length) + payload.len();
+    if !has_room(out.len(), place, need) {
+        return Err(Refusal::OUTPUT_TOO_SHORT);
+    }
+    out[place] = Kind::DATAGRAM as u8;
+    put(payload_length, payload, out, place + 1);
+    Ok(need)
+}
+
+// A frame's header, and then the payload, or nothing where the header is to stand alone. Without the hint it is not
+// inlined, since two functions call it, and a header alone takes 1.8 times as long.
+#[inline]
+fn put_frame(
+    quarter: Quarter,
+    path: u64,
+    payload_length: u64,
+    payload: &[u8],
+    out: &mut [u8],
+    place: usize,
+) -> Result<usize, Refusal>
+    requires quarter_bound { quarter.0 ≤ largest_quarter }
+    requires payload_bound { length payload.now ≤ payload_length }
+    ensures { writing result out.new ≡ put_frame_by quarter.0 path payload_length payload.now out.old place }
+{
+    if payload_length > Opening::MAX_LIMIT {
+        return Err(Refusal::NUMBER_TOO_LARGE);
+    }
+    let size = least_size(quarter.0);
+    if (size as u64) + payload_length > path {
+        return Err(Refusal::FRAME_TOO_LONG);
+    }
+    let need = size + payload.len();
+    if !has_room(out.len(), place, need) {
+        return Err(Refusal::OUTPUT_TOO_SHORT);
+    }
+    put(quarter.0, payload, out, place);
+    Ok(need)
+}
+
+fn has_room(len: usize, place: usize, need: usize) -> bool
+    ensures { IsTrue result ↔ (place + need ≤ len) }
+{
+    place <= len && need <= len - place
+}
+
+// The shortest varint of a number and then the payload, at a place where both fit. A place beside the output, here and
+// in `wire`: the writers put bytes at the place that the host names, and no others change.
 fn put(head: u64, payload: &[u8], out: &mut [u8], at: usize)
     requires { (head ≤ largest) × (at + (least_size head + length payload.now) ≤ length out.old) }
     ensures { out.new ≡ sets out.old at (encode head ++ payload.now) }
 {
     let size = least_size(head);
-    write_varint(head, out, at);
+    let _ = write_varint(head, out, at);
     copying::copy_span(payload, 0, out, at + size, payload.len());
-}
-
-fn put_frame(quarter: Quarter, path: u64, payload: &[u8], out: &mut [u8], place: usize) -> Written
-    requires { quarter.0 ≤ largest_quarter }
-    ensures { writing result out.new ≡ put_frame quarter.0 path payload.now out.old place }
-{
-    let n = payload.len();
-    if n > (Opening::MAX_LIMIT as usize) {
-        return Written::Refused(Refusal::NUMBER_TOO_LARGE);
-    }
-    let need = least_size(quarter.0) + n;
-    if (need as u64) > path {
-        return Written::Refused(Refusal::FRAME_TOO_LONG);
-    }
-    if place > out.len() {
-        return Written::Refused(Refusal::OUTPUT_TOO_SHORT);
-    }
-    if out.len() - place < need {
-        return Written::Refused(Refusal::OUTPUT_TOO_SHORT);
-    }
-    put(quarter.0, payload, out, place);
-    Written::Wrote(need)
-}
-
-fn put_frame_header(
-    quarter: Quarter,
-    path: u64,
-    length: u64,
-    out: &mut [u8],
-    place: usize,
-) -> Written
-    requires { quarter.0 ≤ largest_quarter }
-    ensures { writing result out.new ≡ put_frame_header quarter.0 path length out.old place }
-{
-    if length > Opening::MAX_LIMIT {
-        return Written::Refused(Refusal::NUMBER_TOO_LARGE);
-    }
-    let size = least_size(quarter.0);
-    if (size as u64) + length > path {
-        return Written::Refused(Refusal::FRAME_TOO_LONG);
-    }
-    write_varint(quarter.0, out, place)
 }

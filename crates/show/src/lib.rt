@@ -1,29 +1,17 @@
-// Words and numbers on standard output, for programs that are held to what they print.
+// Bytes as hex digits, for programs that are held to what they print.
 #![tactic(auto)]
 
-use std::io;
-
-pub fn word(rt: &impl Print, text: &[u8]) -> io::Result<()> {
-    rt.write_all(text)
-}
-
-pub fn number(rt: &impl Print, n: u64) -> io::Result<()> {
-    print!(rt; "{n}")
-}
+use std::fmt;
 
 // Two digits a byte.
-pub fn hex(rt: &impl Print, s: &[u8]) -> io::Result<()> {
-    for b in s {
-        print!(rt; "{b:02x}")?;
-    }
-    Ok(())
-}
+#[derive(Clone, Copy)]
+pub struct Hex<'a>(pub &'a [u8]);
 
-// The first n bytes, or all.
-pub fn first(rt: &impl Print, s: &[u8], n: usize) -> io::Result<()> {
-    if n <= s.len() {
-        hex(rt, &s[..n])
-    } else {
-        hex(rt, s)
+impl fmt::Display for Hex<'_> {
+    fn fmt<W: fmt::Write>(&self, f: &mut fmt::Formatter<W>) -> fmt::Result {
+        for b in self.0 {
+            write!(f, "{b:02x}")?;
+        }
+        Ok(())
     }
 }

@@ -1,8 +1,8 @@
 -- How many bytes a feeding consumed.
-use Rattle.std.specs.Prelude.{ℕ}
-use Rattle.capsule.specs.declared.reader.FeedAnswer.{FeedAnswer}
-use Rattle.capsule.specs.declared.reader.FeedAnswer.TheVariants.{Refused, Took}
+use Rattle.refusals.specs.declared.Refusal.{Refusal}
+use Rattle.capsule.specs.declared.reader.Advance.{Advance}
+use Rattle.std.specs.Prelude.{ℕ, Result, Ok, Err}
 
-unfoldable pub consumed_in : FeedAnswer → ℕ
-consumed_in (Refused why) = 0
-consumed_in (Took consumed written ended) = consumed
+unfoldable pub consumed_in : Result Advance Refusal → ℕ
+consumed_in (Err why) = 0
+consumed_in (Ok took) = took.consumed

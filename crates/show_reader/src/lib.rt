@@ -4,118 +4,104 @@
 ghost use Rattle.std.specs.Prelude.{◌≡◌};
 ghost use Rattle.show_reader.specs.Consumed.{consumed_in};
 
-use capsule::reader::{CloseAnswer, FeedAnswer};
+use capsule::reader::{Advance, Ending};
 use opening::Report;
-use planning::Ended;
 use refusals::Refusal;
-use show::{first, number, word};
-use std::io;
+use show::Hex;
+use std::{fmt, io};
 
-pub fn refused(rt: &impl Print, why: Refusal) -> io::Result<()> {
-    word(rt, b"refused ")?;
-    number(rt, why.0 as u64)
+#[derive(Clone, Copy)]
+pub struct Refused(pub Refusal);
+
+impl fmt::Display for Refused {
+    fn fmt<W: fmt::Write>(&self, f: &mut fmt::Formatter<W>) -> fmt::Result {
+        write!(f, "refused {}", self.0.0)
+    }
 }
 
-// A report. A delivered payload stands at the front of the gathering buffer, a delivered address value at the front of the second one.
-pub fn report(rt: &impl Print, r: Report, gathering: &[u8], addresses: &[u8]) -> io::Result<()> {
-    match r {
-        Report::Delivered { length: n } => {
-            word(rt, b"delivered ")?;
-            number(rt, n)?;
-            word(rt, b" (")?;
-            first(rt, gathering, n as usize)?;
-            word(rt, b")")
+// The front of a buffer.
+fn first(buffer: &[u8], n: usize) -> Hex<'_> {
+    Hex(&buffer[..n.min(buffer.len())])
+}
+
+// A report. A delivered payload stands at the front of the gathering buffer, a delivered address value at the front of
+// the second one.
+#[derive(Clone, Copy)]
+pub struct Reported<'a> {
+    pub report: Report,
+    pub gathering: &'a [u8],
+    pub addresses: &'a [u8],
+}
+
+impl fmt::Display for Reported<'_> {
+    fn fmt<W: fmt::Write>(&self, f: &mut fmt::Formatter<W>) -> fmt::Result {
+        match self.report {
+            Report::Delivered { length } => {
+                let payload = first(self.gathering, length as usize);
+                write!(f, "delivered {length} ({payload})")
+            }
+            Report::Dropped { length } => write!(f, "dropped {length}"),
+            Report::Skipped { ctype, length } => write!(f, "skipped {ctype} {length}"),
+            Report::Passed { ctype, length } => write!(f, "passed {ctype} {length}"),
+            Report::AddressDelivered { ctype, length } => {
+                let value = first(self.addresses, length as usize);
+                write!(f, "address {ctype} {length} ({value})")
+            }
+            Report::Malformed { ctype, length } => write!(f, "malformed {ctype} {length}"),
         }
-        Report::Dropped { length: n } => {
-            word(rt, b"dropped ")?;
-            number(rt, n)
-        }
-        Report::Skipped {
-            ctype: t,
-            length: n,
-        } => other(rt, b"skipped ", t, n),
-        Report::Passed {
-            ctype: t,
-            length: n,
-        } => other(rt, b"passed ", t, n),
-        Report::AddressDelivered {
-            ctype: t,
-            length: n,
-        } => {
-            other(rt, b"address ", t, n)?;
-            word(rt, b" (")?;
-            first(rt, addresses, n as usize)?;
-            word(rt, b")")
-        }
-        Report::Malformed {
-            ctype: t,
-            length: n,
-        } => other(rt, b"malformed ", t, n),
     }
 }
 
 // What a feeding says, each answer behind a word: a refusal, what it wrote, and what ended.
 pub fn feeding(
     rt: &impl Print,
-    answer: FeedAnswer,
+    answer: Result<Advance, Refusal>,
     gathering: &[u8],
     addresses: &[u8],
     output: &[u8],
-    before: &[u8],
+    before: &str,
 ) -> io::Result<()> {
     match answer {
-        FeedAnswer::Refused(why) => {
-            word(rt, before)?;
-            refused(rt, why)
-        }
-        FeedAnswer::Took {
-            consumed: _,
-            written,
-            ended,
-        } => {
-            if written > 0 {
-                word(rt, before)?;
-                word(rt, b"writes ")?;
-                first(rt, output, written)?;
+        Err(why) => print!(rt; "{before}{}", Refused(why)),
+        Ok(took) => {
+            if took.written > 0 {
+                print!(rt; "{before}writes {}", first(output, took.written))?;
             }
-            match ended {
-                Ended::Nothing => Ok(()),
-                Ended::Capsule(r) => {
-                    word(rt, before)?;
-                    report(rt, r, gathering, addresses)
+            match took.ended {
+                None => Ok(()),
+                Some(report) => {
+                    let reported = Reported {
+                        report,
+                        gathering,
+                        addresses,
+                    };
+                    print!(rt; "{before}{reported}")
                 }
             }
         }
     }
 }
 
-pub fn ending(rt: &impl Print, answer: CloseAnswer) -> io::Result<()> {
-    match answer {
-        CloseAnswer::Refused(why) => refused(rt, why),
-        CloseAnswer::Clean => word(rt, b"clean"),
-        CloseAnswer::Truncated => word(rt, b"truncated"),
+#[derive(Clone, Copy)]
+pub struct Closing(pub Result<Ending, Refusal>);
+
+impl fmt::Display for Closing {
+    fn fmt<W: fmt::Write>(&self, f: &mut fmt::Formatter<W>) -> fmt::Result {
+        match self.0 {
+            Err(why) => write!(f, "{}", Refused(why)),
+            Ok(Ending::Clean) => f.write_str("clean"),
+            Ok(Ending::Truncated) => f.write_str("truncated"),
+        }
     }
 }
 
 // How many bytes a feeding consumed: a refused one none.
 #[tactic(auto, unfolding(crate::specs::Consumed::consumed_in))]
-pub fn consumed(answer: FeedAnswer) -> usize
+pub fn consumed(answer: Result<Advance, Refusal>) -> usize
     ensures { result ≡ consumed_in answer }
 {
     match answer {
-        FeedAnswer::Refused(_) => 0,
-        FeedAnswer::Took {
-            consumed: n,
-            written: _,
-            ended: _,
-        } => n,
+        Err(_) => 0,
+        Ok(took) => took.consumed,
     }
-}
-
-// What became of a capsule that is not DATAGRAM, its type and its length.
-fn other(rt: &impl Print, became: &[u8], ctype: u64, length: u64) -> io::Result<()> {
-    word(rt, became)?;
-    number(rt, ctype)?;
-    word(rt, b" ")?;
-    number(rt, length)
 }

@@ -8,8 +8,9 @@ ghost use Rattle.stream_answers.specs.Frames.{judged_numbers, delivered_answer, 
 use answers::numbers::{error_number, refusal_number};
 use http_errors::ties::judged_error;
 use judging::judge::Judged;
+use refusals::Refusal;
 use wire::units::Quarter;
-use wire::varint::{Varint, read_varint};
+use wire::varint::read_varint;
 
 // quarter: with rules 2 to 8; place: with rules 5 to 8; start and length: with rule 8
 #[repr(C)]
@@ -24,11 +25,12 @@ pub struct JudgedAnswer {
     pub error: u64,
 }
 
-pub fn judged_answer(judged: Judged, frame: &[u8]) -> JudgedAnswer
+#[tactic(auto, unfolding(crate::specs::Frames::judged_answer, crate::specs::Frames::or_zero, judging::specs::Judging::rule_of, judging::specs::Judging::quarter_in, judging::specs::Judging::place_in))]
+pub fn judged_answer(judged: Result<Judged, Refusal>, frame: &[u8]) -> JudgedAnswer
     ensures { result ≡ judged_answer frame.now judged }
 {
     match judged {
-        Judged::Refused(why) => JudgedAnswer {
+        Err(why) => JudgedAnswer {
             refusal: refusal_number(why),
             rule: 0,
             quarter: 0,
@@ -37,24 +39,24 @@ pub fn judged_answer(judged: Judged, frame: &[u8]) -> JudgedAnswer
             length: 0,
             error: 0,
         },
-        Judged::ShortFrame => ruled(judged, 1, Quarter(0), 0),
-        Judged::QuarterTooLarge { quarter } => ruled(judged, 2, quarter, 0),
-        Judged::BeyondLimit { quarter } => ruled(judged, 3, quarter, 0),
-        Judged::NoStream { quarter } => ruled(judged, 4, quarter, 0),
-        Judged::ReceiveClosed { quarter, place } => ruled(judged, 5, quarter, place),
-        Judged::NoSemantics { quarter, place } => ruled(judged, 6, quarter, place),
-        Judged::TooLong { quarter, place } => ruled(judged, 7, quarter, place),
-        Judged::Delivered { quarter, place } => delivered(quarter, place, frame),
+        Ok(Judged::ShortFrame) => ruled(judged, 1, Quarter(0), 0),
+        Ok(Judged::QuarterTooLarge { quarter }) => ruled(judged, 2, quarter, 0),
+        Ok(Judged::BeyondLimit { quarter }) => ruled(judged, 3, quarter, 0),
+        Ok(Judged::NoStream { quarter }) => ruled(judged, 4, quarter, 0),
+        Ok(Judged::ReceiveClosed { quarter, place }) => ruled(judged, 5, quarter, place),
+        Ok(Judged::NoSemantics { quarter, place }) => ruled(judged, 6, quarter, place),
+        Ok(Judged::TooLong { quarter, place }) => ruled(judged, 7, quarter, place),
+        Ok(Judged::Delivered { quarter, place }) => delivered(quarter, place, frame),
     }
 }
 
 // Rules 1 to 7, by their numbers.
-fn ruled(judged: Judged, rule: u64, quarter: Quarter, place: usize) -> JudgedAnswer
+fn ruled(judged: Result<Judged, Refusal>, rule: u64, quarter: Quarter, place: usize) -> JudgedAnswer
     ensures { result ≡ judged_numbers rule (error_number (judged_error judged)) quarter.0 place 0 0 }
 {
     JudgedAnswer {
         refusal: 0,
-        rule: rule,
+        rule,
         quarter: quarter.0,
         place: place as u64,
         start: 0,
@@ -64,12 +66,13 @@ fn ruled(judged: Judged, rule: u64, quarter: Quarter, place: usize) -> JudgedAns
 }
 
 // Rule 8: the payload is what follows the quarter.
+#[tactic(auto, unfolding(crate::specs::Frames::delivered_answer, crate::specs::Frames::or_zero, judging::specs::Judging::rule_of, judging::specs::Judging::quarter_in, judging::specs::Judging::place_in, http_errors::specs::Ties::judged_error, answers::specs::Numbers::error_number))]
 fn delivered(quarter: Quarter, place: usize, frame: &[u8]) -> JudgedAnswer
     ensures { result ≡ delivered_answer quarter place frame.now (read_varint frame.now) }
 {
     match read_varint(frame) {
-        Varint::Incomplete => part(quarter, place, 0, 0),
-        Varint::Whole { value: _, size } => part(quarter, place, size, frame.len() - size),
+        None => part(quarter, place, 0, 0),
+        Some(read) => part(quarter, place, read.size, frame.len() - read.size),
     }
 }
 

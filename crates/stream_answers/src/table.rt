@@ -4,8 +4,10 @@ ghost use Rattle.stream_answers.specs.Table.{opened_answer, closed_answer, found
 
 use answers::numbers::refusal_number;
 use reader_words::numbers::bit_of;
-use stream_records::answers::{SideClosed, Standing, StreamOpened};
+use refusals::Refusal;
+use stream_records::answers::SideClosed;
 
+// Each answer is a struct of the C interface, so each has a function that makes it.
 #[repr(C)]
 #[derive(Clone, Copy)]
 pub struct OpenedAnswer {
@@ -29,49 +31,52 @@ pub struct SideClosedAnswer {
     pub freed: u64,
 }
 
-pub fn found_answer(standing: Standing) -> FoundAnswer
+#[tactic(auto, unfolding(crate::specs::Table::found_answer))]
+pub fn found_answer(standing: Result<usize, Refusal>) -> FoundAnswer
     ensures { result ≡ found_answer standing }
 {
     match standing {
-        Standing::Refused(why) => FoundAnswer {
+        Err(why) => FoundAnswer {
             refusal: refusal_number(why),
             place: 0,
         },
-        Standing::At(place) => FoundAnswer {
+        Ok(place) => FoundAnswer {
             refusal: 0,
             place: place as u64,
         },
     }
 }
 
-pub fn opened_answer(opening: StreamOpened) -> OpenedAnswer
+#[tactic(auto, unfolding(crate::specs::Table::opened_answer))]
+pub fn opened_answer(opening: Result<usize, Refusal>) -> OpenedAnswer
     ensures { result ≡ opened_answer opening }
 {
     match opening {
-        StreamOpened::Refused(why) => OpenedAnswer {
+        Err(why) => OpenedAnswer {
             refusal: refusal_number(why),
             place: 0,
         },
-        StreamOpened::Opened(place) => OpenedAnswer {
+        Ok(place) => OpenedAnswer {
             refusal: 0,
             place: place as u64,
         },
     }
 }
 
-pub fn closed_answer(closing: SideClosed) -> SideClosedAnswer
+#[tactic(auto, unfolding(crate::specs::Table::closed_answer))]
+pub fn closed_answer(closing: Result<SideClosed, Refusal>) -> SideClosedAnswer
     ensures { result ≡ closed_answer closing }
 {
     match closing {
-        SideClosed::Refused(why) => SideClosedAnswer {
+        Err(why) => SideClosedAnswer {
             refusal: refusal_number(why),
             place: 0,
             freed: 0,
         },
-        SideClosed::Closed { place, freed } => SideClosedAnswer {
+        Ok(side) => SideClosedAnswer {
             refusal: 0,
-            place: place as u64,
-            freed: bit_of(freed),
+            place: side.place as u64,
+            freed: bit_of(side.freed),
         },
     }
 }

@@ -1,6 +1,9 @@
 -- A table after a side was closed, and what both operations leave. Assumes nothing.
+use Rattle.std.specs.Prelude.{None, Result, Ok, Err}
+use Rattle.refusals.specs.declared.Refusal.{Refusal}
+use Rattle.stream_records.specs.Tables.{side_closed}
 use Rattle.walks.proofs.Words.{◌≡◌, refl, sym, ap, ◌∙◌, ℕ, ◌<◌, arith, Bool, true, false, not, ◌||◌, true≢false, ltb, length, get_or, set, length-set, get_or-set_same, get_or-set_other, set-get_or, lt-ltb}
-use Rattle.stream_records.proofs.Terms.{StreamId, Quarter, largest_quarter, StreamRecord, Side, Receive, Send, Nothing, SideClosed, Refused, Closed, blank, flag, is_used, both_closed, is_blank, is_bad_record, holds, with_closed, closed_side, Table, any_bad, stands_twice, is_bad, find, entry_at, lowest_free, open_at, open_entry, opening_of, closing_of, table_opened, table_closed, ClosedRight, ClosedTwice, ClosedAgain, ClosedStored, FreedFoundAgain, FullThenFreed, StaysGood, OthersUntouched, TooManyRefused, NoneIsGood}
+use Rattle.stream_records.proofs.Terms.{StreamId, Quarter, largest_quarter, StreamRecord, Side, Receive, Send, SideClosed, blank, flag, is_used, both_closed, is_blank, is_bad_record, holds, with_closed, closed_side, Table, any_bad, stands_twice, is_bad, find, entry_at, lowest_free, open_at, open_entry, opening_of, closing_of, table_opened, table_closed, ClosedRight, ClosedTwice, ClosedAgain, ClosedStored, FreedFoundAgain, FullThenFreed, StaysGood, OthersUntouched, TooManyRefused, NoneIsGood}
 use Rattle.stream_records.proofs.{Flags.or_none, Flags.used-bad, Flags.closed_exactly, Flags.closed_already, Places.First, Places.is_free, Places.find_first, Places.lowest_first, Places.first-at, Places.none_is, Places.find-nothing, Decisions.opened_so_lem, Decisions.Closes, Decisions.closes, Decisions.closed_so_lem, Goodness.good_of, Goodness.of_good, Goodness.held, Goodness.holds_so, Goodness.blank_free, Goodness.found_once, Goodness.after-set, Goodness.set_first, Goodness.set_good, Openings.opened-length, Openings.opened_other, Openings.lowest_none, Openings.opening_good}
 
 -- ---- a record with a side closed
@@ -72,17 +75,17 @@ closing_good : (t : Table) (id : StreamId) (side : Side) → is_bad t ≡ false 
 unfolding table_closed
 closing_good t id side b = go (closing_of t id side) refl
   where
-    go : (a : SideClosed) → closing_of t id side ≡ a → is_bad (table_closed t side a) ≡ false
-    go (Refused r) e = b
-    go (Closed i freed) e = closed-table_good t id side i freed (closes t id side i freed e)
+    go : (a : Result SideClosed Refusal) → closing_of t id side ≡ a → is_bad (table_closed t side a) ≡ false
+    go (Err r) e = b
+    go (Ok side') e = closed-table_good t id side side'.place side'.freed (closes t id side side'.place side'.freed e)
 
 pub stays_good : StaysGood
 stays_good t id b = (λ semantics. opening_good t id semantics b, λ side. closing_good t id side b)
 
-closed-length : (t : Table) (side : Side) (a : SideClosed) → length (table_closed t side a) ≡ length t
+closed-length : (t : Table) (side : Side) (a : Result SideClosed Refusal) → length (table_closed t side a) ≡ length t
 unfolding table_closed
-closed-length t side (Refused r) = refl
-closed-length t side (Closed i freed) = length-set t i _
+closed-length t side (Err r) = refl
+closed-length t side (Ok side') = length-set t side'.place _
 
 pub others_untouched : OthersUntouched
 unfolding table_opened table_closed
@@ -96,7 +99,7 @@ others_untouched t = (
 
 same : (t : Table) (id : StreamId) (side : Side) (i : ℕ) → Closes t id side i false
     → let after : Table = set t i (closed_side side (get_or t i blank)) in
-    (closing_of after id side ≡ Closed i false) × (set after i (closed_side side (get_or after i blank)) ≡ after)
+    (closing_of after id side ≡ Ok (side_closed i false)) × (set after i (closed_side side (get_or after i blank)) ≡ after)
 same t id side i c =
     let old = get_or t i blank in
     let new = closed_side side old in
@@ -162,7 +165,7 @@ module _ (t : Table) (id : StreamId) (side : Side) (i : ℕ) (c : Closes t id si
   gone_free = ap is_free gone-blank
 
   -- what is not in the table is not in it afterwards
-  still_away : (q : ℕ) → find q t ≡ Nothing → find q (set t i gone) ≡ Nothing
+  still_away : (q : ℕ) → find q t ≡ None → find q (set t i gone) ≡ None
   still_away q e = find_first q (set t i gone) ∙ none_is (holds q) (set t i gone)
       (λ k m. after-set t i gone gone_inside k (λ f x. ap (holds q) (x ∙ gone-blank) ∙ blank_free q) (λ n x. ap (holds q) x ∙ find-nothing q t e k))
 

@@ -1,6 +1,6 @@
 -- The flags of a record, by what its number leaves at a division by each; a flag cleared, by the difference. Assumes nothing.
-use Rattle.walks.proofs.Words.{◌≡◌, refl, sym, ap, ◌∙◌, ℕ, ◌+◌, ◌-◌, ◌/◌, ◌%◌, ◌≤◌, ◌<◌, arith, Bool, true, false, cond, not, ◌&&◌, ◌||◌, or-false, true≢false, false≢true, eqb, ltb, eqb-true, eq-eqb, ne_eqb, lt-ltb, le-ltb, ltb-false, not-false}
-use Rattle.stream_records.proofs.Terms.{largest_quarter, StreamRecord, Side, Receive, Send, flag, blank, is_used, receive_open, send_open, has_semantics, both_closed, is_blank, is_bad_record, without, with_closed, FlagsExactly, BlankExactly, FreeGood, UsedGood, ClosedExactly, ClosedAlready}
+use Rattle.walks.proofs.Words.{◌≡◌, refl, sym, ap, subst, ◌∙◌, ℕ, ◌+◌, ◌-◌, ◌/◌, ◌%◌, ◌≤◌, ◌<◌, arith, Bool, true, false, cond, not, ◌&&◌, ◌||◌, or-false, true≢false, false≢true, eqb, ltb, eqb-true, eq-eqb, ne_eqb, lt-ltb, le-ltb, ltb-false, not-false}
+use Rattle.stream_records.proofs.Terms.{largest_quarter, StreamRecord, Side, Receive, Send, flag, flag_of, blank, is_used, receive_open, send_open, has_semantics, both_closed, is_blank, is_bad_record, without, with_closed, FlagsExactly, BlankExactly, FreeGood, UsedGood, ClosedExactly, ClosedAlready}
 
 pub or_none : (a b : Bool) → (a || b) ≡ false → (a ≡ false) × (b ≡ false)
 or_none false b e = (refl, e)
@@ -151,6 +151,16 @@ closed_exactly r = (
       other_flag 4 r 8 (λ e. ap (λ (x : ℕ). x % 2) (above_send r.flags e)),
       kept 4 r (λ s. s.flags / 16) (λ e. sixteenths (r.flags - 4) r.flags (above_send r.flags e)),
     )
+
+pub flag_within : (r : StreamRecord) (side : Side) (bit : ℕ) → bit ≡ flag_of side → flag bit r ≡ true → bit ≤ r.flags
+flag_within r Receive bit e f = let h : r.flags / 2 % 2 ≡ 1 = subst (λ (b : ℕ). r.flags / b % 2 ≡ 1) e (set_odd bit r f) in omega (arith, h, e)
+flag_within r Send bit e f = let h : r.flags / 4 % 2 ≡ 1 = subst (λ (b : ℕ). r.flags / b % 2 ≡ 1) e (set_odd bit r f) in omega (arith, h, e)
+
+-- a side is closed by clearing its flag
+pub without_flag : (r : StreamRecord) (side : Side) (bit : ℕ) → bit ≡ flag_of side → without bit r ≡ with_closed side r
+unfolding with_closed
+without_flag r Receive bit e = ap (λ (b : ℕ). without b r) e
+without_flag r Send bit e = ap (λ (b : ℕ). without b r) e
 
 pub closed_already : ClosedAlready
 unfolding with_closed

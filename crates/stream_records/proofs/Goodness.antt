@@ -1,6 +1,7 @@
 -- A good table, place by place, and one record of it stored anew. Assumes nothing.
+use Rattle.std.specs.Prelude.{Option, Some, None}
 use Rattle.walks.proofs.Words.{◌≡◌, refl, sym, ap, ◌∙◌, ℕ, zero, suc, ◌≤◌, ◌<◌, arith, Bool, true, false, ◌&&◌, ◌||◌, true≢false, [], ◌∷◌, eqb, ltb, length, get_or, set, length-set, get_or-set_same, get_or-set_other, eq-eqb, eqb-true, eqb-false, ltb-false, le-ltb}
-use Rattle.stream_records.proofs.Terms.{largest_quarter, StreamRecord, Found, Nothing, At, blank, flag, is_used, is_blank, is_bad_record, holds, Table, any_bad, stands_in, stands_twice, is_bad, GoodTable, HoldsExactly, GoodExactly, FoundOnce}
+use Rattle.stream_records.proofs.Terms.{largest_quarter, StreamRecord, blank, flag, is_used, is_blank, is_bad_record, holds, Table, any_bad, stands_in, stands_twice, is_bad, GoodTable, HoldsExactly, GoodExactly, FoundOnce}
 use Rattle.stream_records.proofs.{Flags.or_none, Flags.and_both, Flags.not_so, Flags.free_good, Flags.used_good, Places.first, Places.find_first, Places.stands-first, Places.any_first, Places.is_at, Places.first-is, Places.none_is, Places.first_none}
 
 -- as `GoodTable`, by quarters
@@ -10,10 +11,10 @@ pub record Good (t : Table) : Type 0 where
   -- a quarter has one place
   pub once : (q j k : ℕ) → holds q (get_or t j blank) ≡ true → holds q (get_or t k blank) ≡ true → j ≡ k
 
-not_at : (f : Found) → is_at f ≡ false → f ≡ Nothing
+not_at : (f : Option ℕ) → is_at f ≡ false → f ≡ None
 unfolding is_at
-not_at Nothing e = refl
-not_at (At i) e = absurd (true≢false e)
+not_at None e = refl
+not_at (Some i) e = absurd (true≢false e)
 
 module _ (q : ℕ) where
   pub held : (r : StreamRecord) → holds q r ≡ true → (is_used r ≡ true) × (r.quarter.0 ≡ q)
@@ -137,7 +138,7 @@ module _ (t : Table) (i : ℕ) (r : StreamRecord) (l : i < length t) where
       go false x = let n = eqb-false k i x in other n (get_or-set_other t i k r blank n)
 
   -- the record stored is the first of its kind, if it is of that kind and no lower one is
-  pub set_first : (p : StreamRecord → Bool) → p r ≡ true → ((k : ℕ) → k < i → p (get_or t k blank) ≡ false) → first p (set t i r) ≡ At i
+  pub set_first : (p : StreamRecord → Bool) → p r ≡ true → ((k : ℕ) → k < i → p (get_or t k blank) ≡ false) → first p (set t i r) ≡ Some i
   set_first p h b = first-is p (set t i r) i (record {
     within = omega (arith, length-set t i r);
     here = ap p (get_or-set_same t i r blank l) ∙ h;

@@ -1,16 +1,13 @@
 -- Cases that fix how document 01 is read of stream tables. One statement carries them: `Pinned`, proved in proofs/Cases.antt.
-use Rattle.std.specs.Prelude.{◌≡◌, ℕ, ◌+◌, ◌-◌, ◌^◌, Bool, true, false, List, [], ◌∷◌, map, replicate}
+use Rattle.refusals.specs.declared.Refusal.{Refusal}
+use Rattle.stream_records.specs.Tables.{side_closed}
+use Rattle.std.specs.Prelude.{◌≡◌, ℕ, ◌+◌, ◌-◌, ◌^◌, Bool, true, false, List, [], ◌∷◌, map, replicate, Option, Some, None, Result, Ok, Err}
 use Rattle.refusals.specs.Numbers.{refusal}
 use Rattle.wire.specs.declared.units.StreamId.{StreamId}
 use Rattle.stream_records.specs.declared.record.StreamRecord.{StreamRecord}
 use Rattle.stream_records.specs.declared.record.Side.{Side}
 use Rattle.stream_records.specs.declared.record.Side.TheVariants.{Receive, Send}
-use Rattle.stream_records.specs.declared.answers.Found.{Found}
-use Rattle.stream_records.specs.declared.answers.Found.TheVariants.{Nothing, At}
-use Rattle.stream_records.specs.declared.answers.StreamOpened.{StreamOpened}
-use Rattle.stream_records.specs.declared.answers.StreamOpened.TheVariants as opening
 use Rattle.stream_records.specs.declared.answers.SideClosed.{SideClosed}
-use Rattle.stream_records.specs.declared.answers.SideClosed.TheVariants as closing
 use Rattle.stream_records.specs.Records.{blank, closed_side}
 use Rattle.stream_records.specs.Tables.{Table, is_bad, find, opening_of, closing_of, table_opened, table_closed}
 
@@ -22,7 +19,7 @@ abbrev rec : ℕ → ℕ → StreamRecord
 rec q flags = record { quarter = record { 0 = q }; flags = flags }
 
 -- one side closed after the other, each in the table that the one before left
-unfoldable pub closings : Table → StreamId → List Side → List SideClosed
+unfoldable pub closings : Table → StreamId → List Side → List (Result SideClosed Refusal)
 closings t id [] = []
 closings t id (side ∷ sides) = closing_of t id side ∷ closings (table_closed t side (closing_of t id side)) id sides
 
@@ -30,10 +27,10 @@ pub data Pin : Type 0 where
   -- a table, and whether it is bad
   tables : Table → Bool → Pin
   -- a table and a quarter, and where it stands
-  finds : Table → ℕ → Found → Pin
+  finds : Table → ℕ → Option ℕ → Pin
   -- a table and a stream ID
-  opens : Table → ℕ → StreamOpened → Pin
-  closes : Table → ℕ → List Side → List SideClosed → Pin
+  opens : Table → ℕ → Result ℕ Refusal → Pin
+  closes : Table → ℕ → List Side → List (Result SideClosed Refusal) → Pin
   -- a table, a stream ID and its semantics, and the table after opening
   leaves : Table → ℕ → Bool → Table → Pin
   -- a record and a side, and the record with that side closed
@@ -42,9 +39,9 @@ pub data Pin : Type 0 where
 -- what a case asks for, and what it should be
 pub data Answer : Type 0 where
   is_bad_table : Bool → Answer
-  found : Found → Answer
-  opened : StreamOpened → Answer
-  sides : List SideClosed → Answer
+  found : Option ℕ → Answer
+  opened : Result ℕ Refusal → Answer
+  sides : List (Result SideClosed Refusal) → Answer
   table : Table → Answer
   a_record : StreamRecord → Answer
 
@@ -90,15 +87,15 @@ on_tables =
     -- the blank's quarter is stream 0's too
     ∷ tables (blank ∷ blank ∷ []) false
     ∷ tables (blank ∷ rec 0 15 ∷ []) false
-    ∷ finds (blank ∷ rec 0 15 ∷ []) 0 (At 1)
-    ∷ finds (blank ∷ blank ∷ []) 0 Nothing
+    ∷ finds (blank ∷ rec 0 15 ∷ []) 0 (Some 1)
+    ∷ finds (blank ∷ blank ∷ []) 0 None
     -- lengths
     ∷ tables (replicate 64 blank) false
     ∷ tables (replicate 65 blank) true
     -- a bad record, and a quarter that stands twice, behind a good one; the first place is found even then
     ∷ tables (blank ∷ rec 1 9 ∷ []) true
     ∷ tables (blank ∷ rec 1 15 ∷ rec 1 15 ∷ []) true
-    ∷ finds (rec 1 15 ∷ rec 1 15 ∷ []) 1 (At 0)
+    ∷ finds (rec 1 15 ∷ rec 1 15 ∷ []) 1 (Some 0)
     -- a free record is the blank to the last bit; in a used one the bits above the four flags mean nothing
     ∷ tables (rec 0 16 ∷ []) true
     ∷ tables (rec 0 240 ∷ []) true
@@ -107,41 +104,41 @@ on_tables =
     ∷ tables (rec 1 (2 ^ 63 + 15) ∷ rec 2 29 ∷ []) false
     -- quarters that are the same by their last byte alone
     ∷ tables (rec 1 15 ∷ rec 257 15 ∷ []) false
-    ∷ finds (rec 1 15 ∷ []) 257 Nothing
+    ∷ finds (rec 1 15 ∷ []) 257 None
     ∷ []
 
 abbrev pub on_calls : List Pin
 on_calls =
-    opens (blank ∷ []) 0 (opening.Opened 0)
-    ∷ opens (rec 1 15 ∷ blank ∷ blank ∷ []) 0 (opening.Opened 1)
-    ∷ opens (blank ∷ rec 0 15 ∷ []) 0 (opening.Refused (refusal 9))
+    opens (blank ∷ []) 0 (Ok 0)
+    ∷ opens (rec 1 15 ∷ blank ∷ blank ∷ []) 0 (Ok 1)
+    ∷ opens (blank ∷ rec 0 15 ∷ []) 0 (Err (refusal 9))
     -- both sides open, with the semantics that was named; a refused call leaves the table
     ∷ leaves (rec 0 15 ∷ blank ∷ []) 4 false full
     ∷ leaves (rec 0 15 ∷ blank ∷ []) 4 true (rec 0 15 ∷ rec 1 15 ∷ [])
     ∷ leaves full 8 true full
     -- no place at all
-    ∷ opens [] 0 (opening.Refused (refusal 8))
-    ∷ closes [] 0 (Send ∷ []) (closing.Refused (refusal 10) ∷ [])
+    ∷ opens [] 0 (Err (refusal 8))
+    ∷ closes [] 0 (Send ∷ []) (Err (refusal 10) ∷ [])
     -- 9 is given though a place is free, and stands before 8
-    ∷ opens (rec 1 15 ∷ blank ∷ []) 4 (opening.Refused (refusal 9))
-    ∷ opens full 4 (opening.Refused (refusal 9))
-    ∷ opens full 8 (opening.Refused (refusal 8))
+    ∷ opens (rec 1 15 ∷ blank ∷ []) 4 (Err (refusal 9))
+    ∷ opens full 4 (Err (refusal 9))
+    ∷ opens full 8 (Err (refusal 8))
     -- 15 stands before 7, and 7 before the rest
-    ∷ opens (rec 1 9 ∷ []) 5 (opening.Refused (refusal 15))
-    ∷ opens (replicate 65 blank) 0 (opening.Refused (refusal 15))
-    ∷ opens full 5 (opening.Refused (refusal 7))
-    ∷ opens full (2 ^ 62) (opening.Refused (refusal 7))
-    ∷ closes (rec 1 9 ∷ []) 5 (Send ∷ []) (closing.Refused (refusal 15) ∷ [])
-    ∷ closes (replicate 65 blank) 0 (Send ∷ []) (closing.Refused (refusal 15) ∷ [])
-    ∷ closes full 5 (Send ∷ []) (closing.Refused (refusal 7) ∷ [])
+    ∷ opens (rec 1 9 ∷ []) 5 (Err (refusal 15))
+    ∷ opens (replicate 65 blank) 0 (Err (refusal 15))
+    ∷ opens full 5 (Err (refusal 7))
+    ∷ opens full (2 ^ 62) (Err (refusal 7))
+    ∷ closes (rec 1 9 ∷ []) 5 (Send ∷ []) (Err (refusal 15) ∷ [])
+    ∷ closes (replicate 65 blank) 0 (Send ∷ []) (Err (refusal 15) ∷ [])
+    ∷ closes full 5 (Send ∷ []) (Err (refusal 7) ∷ [])
     -- 15 where a quarter stands twice
-    ∷ opens (rec 1 15 ∷ rec 1 15 ∷ blank ∷ []) 20 (opening.Refused (refusal 15))
-    ∷ closes (rec 1 15 ∷ rec 1 15 ∷ blank ∷ []) 4 (Send ∷ []) (closing.Refused (refusal 15) ∷ [])
+    ∷ opens (rec 1 15 ∷ rec 1 15 ∷ blank ∷ []) 20 (Err (refusal 15))
+    ∷ closes (rec 1 15 ∷ rec 1 15 ∷ blank ∷ []) 4 (Send ∷ []) (Err (refusal 15) ∷ [])
     -- receive, receive, send, send: not freed, not freed, freed, not in the table
     ∷ closes full 4 (Receive ∷ Receive ∷ Send ∷ Send ∷ [])
-    (closing.Closed 1 false ∷ closing.Closed 1 false ∷ closing.Closed 1 true ∷ closing.Refused (refusal 10) ∷ [])
+    (Ok (side_closed 1 false) ∷ Ok (side_closed 1 false) ∷ Ok (side_closed 1 true) ∷ Err (refusal 10) ∷ [])
     ∷ closes full 0 (Send ∷ Receive ∷ [])
-    (closing.Closed 0 false ∷ closing.Closed 0 true ∷ [])
+    (Ok (side_closed 0 false) ∷ Ok (side_closed 0 true) ∷ [])
     -- the semantics stays, whichever side is closed
     ∷ closed (rec 1 15) Receive (rec 1 13)
     ∷ closed (rec 1 15) Send (rec 1 11)

@@ -1,20 +1,15 @@
 -- What holds of the definitions: each claim is a type here, and is proved in proofs/ under its name in lower case with dashes.
-use Rattle.std.specs.Prelude.{◌≡◌, ℕ, ◌/◌, ◌%◌, ◌<◌, ◌≤◌, ◌↔◌, Bool, true, false, [], length, get_or}
+use Rattle.stream_records.specs.Tables.{side_closed}
+use Rattle.std.specs.Prelude.{◌≡◌, ℕ, ◌/◌, ◌%◌, ◌<◌, ◌≤◌, ◌↔◌, Bool, true, false, [], length, get_or, Some, None, Result, Ok, Err}
 use Rattle.refusals.specs.declared.Refusal.{Refusal}
 use Rattle.refusals.specs.Numbers.{bad_table, no_free_place}
 use Rattle.wire.specs.declared.units.StreamId.{StreamId}
 use Rattle.wire.specs.declared.units.Quarter.{Quarter}
-use Rattle.wire.specs.declared.units.QuarterOf.TheVariants.{Is}
 use Rattle.wire.specs.Units.{is_request, largest_quarter, quarter_of}
 use Rattle.stream_records.specs.declared.record.StreamRecord.{StreamRecord}
 use Rattle.stream_records.specs.declared.record.Side.{Side}
 use Rattle.stream_records.specs.declared.record.Side.TheVariants.{Receive, Send}
-use Rattle.stream_records.specs.declared.answers.Found.TheVariants.{Nothing, At}
-use Rattle.stream_records.specs.declared.answers.StreamOpened.{StreamOpened}
-use Rattle.stream_records.specs.declared.answers.StreamOpened.TheVariants as opening
-use Rattle.stream_records.specs.declared.answers.Standing.TheVariants as standing
 use Rattle.stream_records.specs.declared.answers.SideClosed.{SideClosed}
-use Rattle.stream_records.specs.declared.answers.SideClosed.TheVariants as closing
 use Rattle.stream_records.specs.Records.{blank, opened, is_used, receive_open, send_open, has_semantics, both_closed, is_blank, is_bad_record, holds, with_closed, closed_side}
 use Rattle.stream_records.specs.Words.{UsedBelow, GoodTable}
 use Rattle.stream_records.specs.Tables.{Table, is_bad, find, opening_of, closing_of, standing_of, table_opened, table_closed}
@@ -84,78 +79,78 @@ GoodExactly = (t : Table) → (is_bad t ≡ false → GoodTable t) × (GoodTable
 
 -- a place that was found is one of the table, and has the quarter
 abbrev pub FindRight : Type 0
-FindRight = (q i : ℕ) (t : Table) → find q t ≡ At i → (holds q (get_or t i blank) ≡ true) × (i < length t)
+FindRight = (q i : ℕ) (t : Table) → find q t ≡ Some i → (holds q (get_or t i blank) ≡ true) × (i < length t)
 
 -- where nothing is found no place has the quarter
 abbrev pub FindNothing : Type 0
-FindNothing = (q : ℕ) (t : Table) → find q t ≡ Nothing → (k : ℕ) → holds q (get_or t k blank) ≡ false
+FindNothing = (q : ℕ) (t : Table) → find q t ≡ None → (k : ℕ) → holds q (get_or t k blank) ≡ false
 
 -- in a good table a place that has the quarter is the one that is found
 abbrev pub FoundOnce : Type 0
-FoundOnce = (q i : ℕ) (t : Table) → is_bad t ≡ false → holds q (get_or t i blank) ≡ true → find q t ≡ At i
+FoundOnce = (q i : ℕ) (t : Table) → is_bad t ≡ false → holds q (get_or t i blank) ≡ true → find q t ≡ Some i
 
 -- ---- opening (proofs/Openings.antt)
 
 -- the lowest free place
 abbrev pub LowestTaken : Type 0
-LowestTaken = (t : Table) (id : StreamId) (i : ℕ) → opening_of t id ≡ opening.Opened i → (is_used (get_or t i blank) ≡ false) × (i < length t) × UsedBelow t i
+LowestTaken = (t : Table) (id : StreamId) (i : ℕ) → opening_of t id ≡ Ok i → (is_used (get_or t i blank) ≡ false) × (i < length t) × UsedBelow t i
 
 -- the stream is found afterwards, at the place that was answered
 abbrev pub OpenedFound : Type 0
 OpenedFound =
-    (t : Table) (id : StreamId) (semantics : Bool) (q : Quarter) (i : ℕ) → opening_of t id ≡ opening.Opened i → quarter_of id ≡ Is q
-    → find q.0 (table_opened t id semantics (opening.Opened i)) ≡ At i
+    (t : Table) (id : StreamId) (semantics : Bool) (q : Quarter) (i : ℕ) → opening_of t id ≡ Ok i → quarter_of id ≡ Some q
+    → find q.0 (table_opened t id semantics (Ok i)) ≡ Some i
 
 -- and its record there is that of a stream that was just opened, with the semantics that was named
 abbrev pub OpenedStored : Type 0
 OpenedStored =
-    (t : Table) (id : StreamId) (semantics : Bool) (q : Quarter) (i : ℕ) → opening_of t id ≡ opening.Opened i → quarter_of id ≡ Is q
-    → get_or (table_opened t id semantics (opening.Opened i)) i blank ≡ opened q semantics
+    (t : Table) (id : StreamId) (semantics : Bool) (q : Quarter) (i : ℕ) → opening_of t id ≡ Ok i → quarter_of id ≡ Some q
+    → get_or (table_opened t id semantics (Ok i)) i blank ≡ opened q semantics
 
 -- ---- closing (proofs/Closings.antt)
 
 -- the place is the stream's, and it is freed exactly if no side is open any more
 abbrev pub ClosedRight : Type 0
 ClosedRight =
-    (t : Table) (id : StreamId) (side : Side) (q : Quarter) (i : ℕ) (freed : Bool) → closing_of t id side ≡ closing.Closed i freed → quarter_of id ≡ Is q
+    (t : Table) (id : StreamId) (side : Side) (q : Quarter) (i : ℕ) (freed : Bool) → closing_of t id side ≡ Ok (side_closed i freed) → quarter_of id ≡ Some q
     → (i < length t) × (holds q.0 (get_or t i blank) ≡ true) × (freed ≡ both_closed (with_closed side (get_or t i blank)))
 
 -- the record at that place afterwards: the same with that side closed, and the blank where it was freed
 abbrev pub ClosedStored : Type 0
 ClosedStored =
-    (t : Table) (id : StreamId) (side : Side) (i : ℕ) (freed : Bool) → closing_of t id side ≡ closing.Closed i freed
-    → let after : StreamRecord = get_or (table_closed t side (closing.Closed i freed)) i blank in
+    (t : Table) (id : StreamId) (side : Side) (i : ℕ) (freed : Bool) → closing_of t id side ≡ Ok (side_closed i freed)
+    → let after : StreamRecord = get_or (table_closed t side (Ok (side_closed i freed))) i blank in
     (freed ≡ true → after ≡ blank) × (freed ≡ false → after ≡ with_closed side (get_or t i blank))
 
 -- a side that is closed twice while the other is open: the same record, the same answer, the same table
 abbrev pub ClosedTwice : Type 0
 ClosedTwice =
     ((side : Side) (r : StreamRecord) → both_closed (with_closed side r) ≡ false → closed_side side (closed_side side r) ≡ closed_side side r)
-    × ((t : Table) (id : StreamId) (side : Side) (i : ℕ) → closing_of t id side ≡ closing.Closed i false
-    → let after : Table = table_closed t side (closing.Closed i false) in
-    (closing_of after id side ≡ closing.Closed i false) × (table_closed after side (closing.Closed i false) ≡ after))
+    × ((t : Table) (id : StreamId) (side : Side) (i : ℕ) → closing_of t id side ≡ Ok (side_closed i false)
+    → let after : Table = table_closed t side (Ok (side_closed i false)) in
+    (closing_of after id side ≡ Ok (side_closed i false)) × (table_closed after side (Ok (side_closed i false)) ≡ after))
 
 -- a side that is closed already: nothing is freed, and the table stays as it is
 abbrev pub ClosedAgain : Type 0
 ClosedAgain =
-    (t : Table) (id : StreamId) (side : Side) (i : ℕ) (freed : Bool) → closing_of t id side ≡ closing.Closed i freed → with_closed side (get_or t i blank) ≡ get_or t i blank
-    → (freed ≡ false) × (table_closed t side (closing.Closed i freed) ≡ t)
+    (t : Table) (id : StreamId) (side : Side) (i : ℕ) (freed : Bool) → closing_of t id side ≡ Ok (side_closed i freed) → with_closed side (get_or t i blank) ≡ get_or t i blank
+    → (freed ≡ false) × (table_closed t side (Ok (side_closed i freed)) ≡ t)
 
 -- a place that is freed becomes the blank, and is taken again: by any stream that is new then, where all lower places are used
 abbrev pub FreedFoundAgain : Type 0
 FreedFoundAgain =
-    (t : Table) (id : StreamId) (side : Side) (i : ℕ) → closing_of t id side ≡ closing.Closed i true
-    → let after : Table = table_closed t side (closing.Closed i true) in
+    (t : Table) (id : StreamId) (side : Side) (i : ℕ) → closing_of t id side ≡ Ok (side_closed i true)
+    → let after : Table = table_closed t side (Ok (side_closed i true)) in
     (get_or after i blank ≡ blank)
-    × (UsedBelow t i → (new : StreamId) (q : Quarter) → quarter_of new ≡ Is q → find q.0 after ≡ Nothing → opening_of after new ≡ opening.Opened i)
+    × (UsedBelow t i → (new : StreamId) (q : Quarter) → quarter_of new ≡ Some q → find q.0 after ≡ None → opening_of after new ≡ Ok i)
 
 -- a full table has no place for a new stream, and has one as soon as a stream is freed
 abbrev pub FullThenFreed : Type 0
 FullThenFreed =
-    (t : Table) (new : StreamId) (q : Quarter) → is_bad t ≡ false → UsedBelow t (length t) → quarter_of new ≡ Is q → find q.0 t ≡ Nothing
-    → (opening_of t new ≡ opening.Refused no_free_place)
-    × ((id : StreamId) (side : Side) (i : ℕ) → closing_of t id side ≡ closing.Closed i true
-    → opening_of (table_closed t side (closing.Closed i true)) new ≡ opening.Opened i)
+    (t : Table) (new : StreamId) (q : Quarter) → is_bad t ≡ false → UsedBelow t (length t) → quarter_of new ≡ Some q → find q.0 t ≡ None
+    → (opening_of t new ≡ Err no_free_place)
+    × ((id : StreamId) (side : Side) (i : ℕ) → closing_of t id side ≡ Ok (side_closed i true)
+    → opening_of (table_closed t side (Ok (side_closed i true))) new ≡ Ok i)
 
 -- ---- the table afterwards (proofs/Closings.antt)
 
@@ -169,25 +164,25 @@ StaysGood =
 abbrev pub OthersUntouched : Type 0
 OthersUntouched =
     (t : Table)
-    → ((id : StreamId) (semantics : Bool) (answer : StreamOpened) → length (table_opened t id semantics answer) ≡ length t)
-    × ((side : Side) (answer : SideClosed) → length (table_closed t side answer) ≡ length t)
-    × ((id : StreamId) (semantics : Bool) (i j : ℕ) → (j ≡ i → ⊥) → get_or (table_opened t id semantics (opening.Opened i)) j blank ≡ get_or t j blank)
-    × ((side : Side) (i j : ℕ) (freed : Bool) → (j ≡ i → ⊥) → get_or (table_closed t side (closing.Closed i freed)) j blank ≡ get_or t j blank)
-    × ((id : StreamId) (semantics : Bool) (side : Side) (r : Refusal) → (table_opened t id semantics (opening.Refused r) ≡ t) × (table_closed t side (closing.Refused r) ≡ t))
+    → ((id : StreamId) (semantics : Bool) (answer : Result ℕ Refusal) → length (table_opened t id semantics answer) ≡ length t)
+    × ((side : Side) (answer : Result SideClosed Refusal) → length (table_closed t side answer) ≡ length t)
+    × ((id : StreamId) (semantics : Bool) (i j : ℕ) → (j ≡ i → ⊥) → get_or (table_opened t id semantics (Ok i)) j blank ≡ get_or t j blank)
+    × ((side : Side) (i j : ℕ) (freed : Bool) → (j ≡ i → ⊥) → get_or (table_closed t side (Ok (side_closed i freed))) j blank ≡ get_or t j blank)
+    × ((id : StreamId) (semantics : Bool) (side : Side) (r : Refusal) → (table_opened t id semantics (Err r) ≡ t) × (table_closed t side (Err r) ≡ t))
 
 -- more than 64 records, whatever they hold, are refused 15; no records are a good table with no free place
 abbrev pub TooManyRefused : Type 0
 TooManyRefused =
     (t : Table) → 64 < length t → (id : StreamId)
-    → (opening_of t id ≡ opening.Refused bad_table) × ((side : Side) → closing_of t id side ≡ closing.Refused bad_table)
+    → (opening_of t id ≡ Err bad_table) × ((side : Side) → closing_of t id side ≡ Err bad_table)
 
 abbrev pub NoneIsGood : Type 0
-NoneIsGood = (id : StreamId) (q : Quarter) → quarter_of id ≡ Is q → opening_of [] id ≡ opening.Refused no_free_place
+NoneIsGood = (id : StreamId) (q : Quarter) → quarter_of id ≡ Some q → opening_of [] id ≡ Err no_free_place
 
 -- a stream stands at a place exactly if the table is good and the record there is a used one of its quarter
 abbrev pub StandsExactly : Type 0
 StandsExactly =
     (t : Table) (id : StreamId) (i : ℕ)
-    → (standing_of t id ≡ standing.At i
+    → (standing_of t id ≡ Ok i
     → (is_bad t ≡ false) × (is_request id.0 ≡ true) × (i < length t) × (holds (id.0 / 4) (get_or t i blank) ≡ true))
-    × (is_bad t ≡ false → is_request id.0 ≡ true → holds (id.0 / 4) (get_or t i blank) ≡ true → standing_of t id ≡ standing.At i)
+    × (is_bad t ≡ false → is_request id.0 ≡ true → holds (id.0 / 4) (get_or t i blank) ≡ true → standing_of t id ≡ Ok i)

@@ -48,6 +48,11 @@ holds q r = is_used r && eqb r.quarter.0 q
 unfoldable pub without : ℕ → StreamRecord → StreamRecord
 without bit r = cond (flag bit r) (record { quarter = r.quarter; flags = r.flags - bit }) r
 
+-- the flag that says that a side is open
+abbrev pub flag_of : Side → ℕ
+flag_of Receive = 2
+flag_of Send = 4
+
 unfoldable pub with_closed : Side → StreamRecord → StreamRecord
 with_closed Receive r = without 2 r
 with_closed Send r = without 4 r

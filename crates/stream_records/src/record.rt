@@ -1,11 +1,11 @@
 // A stream record: what the table holds of one request stream.
-ghost use Rattle.std.specs.Prelude.{◌≡◌};
-ghost use Rattle.stream_records.specs.Records.{is_used, receive_open, send_open, has_semantics, opened, both_closed, is_blank, is_bad_record, with_closed, closed_side};
+ghost use Rattle.std.specs.Prelude.{◌≡◌, ◌<◌};
+ghost use Rattle.stream_records.specs.Records.{flag, flag_of, is_used, receive_open, send_open, has_semantics, opened, both_closed, is_blank, is_bad_record, holds, with_closed, closed_side};
 
 use wire::units::Quarter;
 
 #[repr(C)]
-#[derive(Clone, Copy)]
+#[derive(Clone, Copy, PartialEq, Eq)]
 pub struct StreamRecord {
     pub quarter: Quarter,
     // USED, RECEIVE, SEND and SEMANTICS; the other bits mean nothing
@@ -39,77 +39,70 @@ impl StreamRecord {
         flags: 0,
     };
 
-    // A stream that was just opened.
+    // A stream that was just opened. `semantics` is what is stored, as a flag of the record.
     pub fn open(quarter: Quarter, semantics: bool) -> StreamRecord
         ensures { result ≡ opened quarter semantics }
     {
-        if semantics {
-            return StreamRecord {
-                quarter: quarter,
-                flags: StreamRecord::USED
-                    + StreamRecord::RECEIVE
-                    + StreamRecord::SEND
-                    + StreamRecord::SEMANTICS,
-            };
-        }
+        let open = Self::USED + Self::RECEIVE + Self::SEND;
         StreamRecord {
-            quarter: quarter,
-            flags: StreamRecord::USED + StreamRecord::RECEIVE + StreamRecord::SEND,
+            quarter,
+            flags: if semantics {
+                open + Self::SEMANTICS
+            } else {
+                open
+            },
         }
     }
 
     pub fn is_used(self) -> bool
         ensures { result ≡ is_used self }
     {
-        self.flags / StreamRecord::USED % 2 == 1
+        self.has(Self::USED)
     }
 
     pub fn receive_open(self) -> bool
         ensures { result ≡ receive_open self }
     {
-        self.flags / StreamRecord::RECEIVE % 2 == 1
+        self.has(Self::RECEIVE)
     }
 
     pub fn send_open(self) -> bool
         ensures { result ≡ send_open self }
     {
-        self.flags / StreamRecord::SEND % 2 == 1
+        self.has(Self::SEND)
     }
 
     pub fn has_semantics(self) -> bool
         ensures { result ≡ has_semantics self }
     {
-        self.flags / StreamRecord::SEMANTICS % 2 == 1
+        self.has(Self::SEMANTICS)
+    }
+
+    // Whether it is a used record of the quarter.
+    #[tactic(auto, unfolding(crate::specs::Records::holds))]
+    pub fn holds(self, quarter: Quarter) -> bool
+        ensures { result ≡ holds quarter.0 self }
+    {
+        self.is_used() && self.quarter == quarter
     }
 
     // Whether it is the fixed blank, to the last bit.
+    #[tactic(auto, unfolding(crate::specs::Records::is_blank))]
     pub fn is_blank(self) -> bool
         ensures { result ≡ is_blank self }
     {
-        let quarter = self.quarter;
-        if quarter.0 != 0 {
-            return false;
-        }
-        self.flags == 0
+        self == Self::BLANK
     }
 
     // Whether no good table has it.
     pub fn is_bad(self) -> bool
         ensures { result ≡ is_bad_record self }
     {
-        let quarter = self.quarter;
-        let number = quarter.0;
         if self.is_used() {
-            let max = Quarter::MAX;
-            if number > max.0 {
-                return true;
-            }
-            if self.receive_open() {
-                return false;
-            }
-            return !self.send_open();
+            self.quarter.0 > Quarter::MAX.0 || !(self.receive_open() || self.send_open())
+        } else {
+            !self.is_blank()
         }
-        !self.is_blank()
     }
 
     // Whether both sides are closed once this one is.
@@ -127,35 +120,45 @@ impl StreamRecord {
         ensures { result ≡ closed_side side self }
     {
         if self.frees(side) {
-            return StreamRecord::BLANK;
+            Self::BLANK
+        } else {
+            self.with_closed(side)
         }
-        self.with_closed(side)
     }
 
     // With one side closed, and no other bit changed.
     fn with_closed(self, side: Side) -> StreamRecord
         ensures { result ≡ with_closed side self }
     {
-        let quarter = self.quarter;
-        match side {
-            Side::Receive => {
-                if !self.receive_open() {
-                    return self;
-                }
-                StreamRecord {
-                    quarter: quarter,
-                    flags: self.flags - StreamRecord::RECEIVE,
-                }
+        let bit = side.flag();
+        if self.has(bit) {
+            StreamRecord {
+                flags: self.flags - bit,
+                ..self
             }
-            Side::Send => {
-                if !self.send_open() {
-                    return self;
-                }
-                StreamRecord {
-                    quarter: quarter,
-                    flags: self.flags - StreamRecord::SEND,
-                }
-            }
+        } else {
+            self
+        }
+    }
+
+    // Whether a flag is set.
+    #[tactic(auto, unfolding(crate::specs::Records::flag))]
+    fn has(self, bit: u64) -> bool
+        requires { 0 < bit }
+        ensures { result ≡ flag bit self }
+    {
+        self.flags / bit % 2 == 1
+    }
+}
+
+impl Side {
+    // The flag of a record that says that it is open.
+    fn flag(self) -> u64
+        ensures { result ≡ flag_of self }
+    {
+        match self {
+            Side::Receive => StreamRecord::RECEIVE,
+            Side::Send => StreamRecord::SEND,
         }
     }
 }

@@ -7,40 +7,40 @@ abbrev pub bucket : StreamRecord → ℕ
 bucket r = r.quarter.0 % 256
 
 -- the bucket of each used record is marked
-unfoldable pub Marked : List ℕ → Table → Type 0
+unfoldable pub Marked : List Bool → Table → Type 0
 Marked seen [] = Unit
-Marked seen (r ∷ rs) = (is_used r ≡ true → get_or seen (bucket r) 0 ≡ 1) × Marked seen rs
+Marked seen (r ∷ rs) = (is_used r ≡ true → get_or seen (bucket r) false ≡ true) × Marked seen rs
 
-module _ (seen : List ℕ) where
-  not_held : (q : ℕ) (r : StreamRecord) → (is_used r ≡ true → get_or seen (bucket r) 0 ≡ 1) → (get_or seen (q % 256) 0 ≡ 1 → ⊥) → holds q r ≡ false
+module _ (seen : List Bool) where
+  not_held : (q : ℕ) (r : StreamRecord) → (is_used r ≡ true → get_or seen (bucket r) false ≡ true) → (get_or seen (q % 256) false ≡ true → ⊥) → holds q r ≡ false
   unfolding holds
   not_held q r m un = go (is_used r) refl (eqb r.quarter.0 q) refl
     where
       go : (u : Bool) → is_used r ≡ u → (e : Bool) → eqb r.quarter.0 q ≡ e → (is_used r && eqb r.quarter.0 q) ≡ false
       go false x e y = rw x
       go true x false y = rw (x, y)
-      go true x true y = absurd (un (subst (λ (k : ℕ). get_or seen (k % 256) 0 ≡ 1) (eqb-true r.quarter.0 q y) (m x)))
+      go true x true y = absurd (un (subst (λ (k : ℕ). get_or seen (k % 256) false ≡ true) (eqb-true r.quarter.0 q y) (m x)))
 
   -- a quarter whose bucket is not marked does not stand there
-  pub unmarked : (q : ℕ) (t : Table) → Marked seen t → (get_or seen (q % 256) 0 ≡ 1 → ⊥) → stands_in q t ≡ false
+  pub unmarked : (q : ℕ) (t : Table) → Marked seen t → (get_or seen (q % 256) false ≡ true → ⊥) → stands_in q t ≡ false
   unfolding Marked stands_in
   unmarked q [] m un = refl
   unmarked q (r ∷ rs) m un = rw (not_held q r m.0 un, unmarked q rs m.1 un)
 
   module _ (b : ℕ) (l : b < length seen) where
-    still : (k : ℕ) → get_or seen k 0 ≡ 1 → get_or (set seen b 1) k 0 ≡ 1
+    still : (k : ℕ) → get_or seen k false ≡ true → get_or (set seen b true) k false ≡ true
     still k e = go (eqb k b) refl
       where
-        go : (t : Bool) → eqb k b ≡ t → get_or (set seen b 1) k 0 ≡ 1
-        go true x = rw (eqb-true k b x) (get_or-set_same seen b 1 0 l)
-        go false x = get_or-set_other seen b k 1 0 (eqb-false k b x) ∙ e
+        go : (t : Bool) → eqb k b ≡ t → get_or (set seen b true) k false ≡ true
+        go true x = rw (eqb-true k b x) (get_or-set_same seen b true false l)
+        go false x = get_or-set_other seen b k true false (eqb-false k b x) ∙ e
 
-    pub stay : (t : Table) → Marked seen t → Marked (set seen b 1) t
+    pub stay : (t : Table) → Marked seen t → Marked (set seen b true) t
     unfolding Marked
     stay [] m = tt
     stay (r ∷ rs) m = (λ u. still (bucket r) (m.0 u), stay rs m.1)
 
-  pub marked_more : (r : StreamRecord) (t : Table) → Marked seen t → (is_used r ≡ true → get_or seen (bucket r) 0 ≡ 1) → Marked seen (t ++ (r ∷ []))
+  pub marked_more : (r : StreamRecord) (t : Table) → Marked seen t → (is_used r ≡ true → get_or seen (bucket r) false ≡ true) → Marked seen (t ++ (r ∷ []))
   unfolding Marked
   marked_more r [] m k = (k, tt)
   marked_more r (x ∷ t) m k = (m.0, marked_more r t m.1 k)

@@ -1,8 +1,11 @@
 -- A table looked through from its first record to its last, by what one record more at the end adds. Assumes nothing.
-use Rattle.walks.proofs.Words.{◌≡◌, refl, sym, ap, subst, ◌∙◌, ℕ, suc, ◌+◌, ◌%◌, ◌≤◌, ◌<◌, add-one, arith, Bool, true, false, cond, ◌&&◌, ◌||◌, or-true, or-false, true≢false, List, [], ◌∷◌, ◌++◌, append-nil, leb, ltb, eqb, length, get_or, set, take, drop, length-set, length-take, take-append-drop, take-suc, take-length, take-take, append_snoc, get_or-set_same, eqb-true, eqb-false, eq-eqb, ne_eqb, leb-true, leb-false, lt-ltb, le-ltb}
+use Rattle.std.specs.Prelude.{Option, Some, None}
+use Rattle.walks.proofs.Words.{◌≡◌, refl, sym, ap, subst, ◌∙◌, ℕ, suc, ◌+◌, ◌%◌, ◌≤◌, ◌<◌, add-one, arith, Bool, true, false, cond, ◌&&◌, ◌||◌, or-true, or-false, true≢false, false≢true, List, [], ◌∷◌, ◌++◌, append-nil, leb, ltb, eqb, length, get_or, set, take, drop, length-set, length-take, take-append-drop, take-suc, take-length, take-take, append_snoc, get_or-set_same, eqb-true, eqb-false, eq-eqb, ne_eqb, leb-true, leb-false, lt-ltb}
+use Rattle.std.specs.List.{list_any, All}
+use Rattle.std.proofs.lemmas.List.Elements.{All-head, All-tail}
 use mathlib.Core.Bool.{or_assoc}
-use Rattle.stream_survey.proofs.Terms.{StreamRecord, Found, Nothing, At, Absent, Present, BadTable, Good, Survey, flag, blank, is_used, is_blank, is_bad_record, holds, Table, any_bad, stands_in, stands_twice, is_bad, next, find, entry_at, lookup_of, place_or, AllBlank, survey_below, survey_of, nothing_seen, fitting, looked_used, looked_free, searched_to, lookup_in, find_right}
-use Rattle.stream_survey.proofs.{Blanks.Occupied, Buckets.Marked, Buckets.unmarked, Buckets.stay, Buckets.marked_more}
+use Rattle.stream_survey.proofs.Terms.{StreamRecord, after, Survey, flag, blank, is_used, is_blank, is_bad_record, holds, Table, any_bad, stands_in, stands_twice, is_bad, next, find, lookup_of, survey_below, survey_of, nothing_seen, fitting, looked_used, looked_free, lookup_in, blank-is}
+use Rattle.stream_survey.proofs.{Blanks.Occupied, Blanks.IsBlank, Buckets.Marked, Buckets.unmarked, Buckets.stay, Buckets.marked_more}
 
 -- ---- tests joined
 
@@ -30,17 +33,12 @@ eqb_turned a b = go (eqb a b) refl
 
 -- ---- one record more, at the end
 
--- where n records have it, or else the one after them
-unfoldable after : ℕ → Bool → Found → Found
-after n b Nothing = cond b (At n) Nothing
-after n b (At i) = At i
-
-later : (b c : Bool) (n : ℕ) (f : Found) → cond c (At 0) (next (after n b f)) ≡ after (suc n) b (cond c (At 0) (next f))
+later : (b c : Bool) (n : ℕ) (f : Option ℕ) → cond c (Some 0) (next (after n b f)) ≡ after (suc n) b (cond c (Some 0) (next f))
 unfolding after next
 later b true n f = refl
-later true false n Nothing = refl
-later false false n Nothing = refl
-later b false n (At i) = refl
+later true false n None = refl
+later false false n None = refl
+later b false n (Some i) = refl
 
 module _ (r : StreamRecord) where
   any_more : (u : Table) → any_bad (u ++ (r ∷ [])) ≡ (any_bad u || is_bad_record r)
@@ -57,7 +55,7 @@ module _ (r : StreamRecord) where
     find-more : (u : Table) → find q (u ++ (r ∷ [])) ≡ after (length u) (holds q r) (find q u)
     unfolding find next after
     find-more [] = refl
-    find-more (x ∷ u) = ap (λ (f : Found). cond (holds q x) (At 0) (next f)) (find-more u) ∙ later (holds q r) (holds q x) (length u) (find q u)
+    find-more (x ∷ u) = ap (λ (f : Option ℕ). cond (holds q x) (Some 0) (next f)) (find-more u) ∙ later (holds q r) (holds q x) (length u) (find q u)
 
   -- the quarters of two records, of which the other stands last
   clash : (x : StreamRecord) (s s' t : Bool)
@@ -76,85 +74,62 @@ module _ (r : StreamRecord) where
 
 -- ---- searched up to a place
 
-module _ (q : ℕ) (t : Table) where
-  -- what the records below i say
-  abbrev pub Searched : Bool → ℕ → Type 0
-  Searched b i = b ≡ stands_in q (take i t)
-
-  pub searched_first : Searched false 0
-  unfolding stands_in
-  searched_first = refl
-
-  pub searched_next : (b c : Bool) (i : ℕ) → i < length t → c ≡ (b || holds q (get_or t i blank)) → Searched b i → Searched c (i + 1)
-  searched_next b c i l e h =
-      e
-      ∙ ap (λ (x : Bool). x || holds q (get_or t i blank)) h
-      ∙ sym (stands-more (get_or t i blank) q (take i t))
-      ∙ ap (stands_in q) (sym (take-suc t i blank l) ∙ ap (λ (k : ℕ). take k t) (sym (add-one i)))
-
-  pub searched_end : (b : Bool) (i place : ℕ) → i ≤ place → place ≤ i → Searched b i → b ≡ stands_in q (take place t)
-  searched_end b i place l g h = let e : i ≡ place = omega arith in h ∙ ap (λ (k : ℕ). stands_in q (take k t)) e
+pub stands-any : (q : ℕ) (t : Table) → stands_in q t ≡ list_any (holds q) t
+unfolding stands_in
+stands-any q [] = refl
+stands-any q (r ∷ rs) = ap (λ (b : Bool). holds q r || b) (stands-any q rs)
 
 -- ---- the survey of some records
 
 abbrev seen_of : ℕ → ℕ → Table → Survey
-seen_of q n u = record { places = n; bad = ltb 64 n || (any_bad u || stands_twice u); place = place_or n (find q u) }
+seen_of q n u = record { bad = ltb 64 n || (any_bad u || stands_twice u); place = find q u }
 
 none_seen : (q n : ℕ) → nothing_seen n ≡ seen_of q n []
-unfolding nothing_seen any_bad stands_twice find place_or
-none_seen q n = ap (λ (b : Bool). record { places = n; bad = b; place = n }) (sym (or-false (ltb 64 n)))
+unfolding nothing_seen any_bad stands_twice find
+none_seen q n = ap (λ (b : Bool). record { bad = b; place = None }) (sym (or-false (ltb 64 n)))
 
--- the first place found stays
-first_stays : (n k : ℕ) (b : Bool) (f : Found) → ((i : ℕ) → f ≡ At i → i < n)
-    → cond b (cond (ltb (place_or n f) n) (place_or n f) k) (place_or n f) ≡ place_or n (after k b f)
-unfolding place_or after
-first_stays n k true Nothing h = ap (λ (b : Bool). cond b n k) (le-ltb n n (omega arith))
-first_stays n k false Nothing h = refl
-first_stays n k true (At i) h = ap (λ (b : Bool). cond b i k) (lt-ltb i n (h i refl))
-first_stays n k false (At i) h = refl
-
-none_more : (n k : ℕ) (f : Found) → place_or n f ≡ place_or n (after k false f)
+none_more : (k : ℕ) (f : Option ℕ) → f ≡ after k false f
 unfolding after
-none_more n k Nothing = refl
-none_more n k (At i) = refl
+none_more k None = refl
+none_more k (Some i) = refl
 
 module _ (q n : ℕ) (r : StreamRecord) (u : Table) where
-  abbrev more : Bool → ℕ → Survey
-  more b place = record { places = n; bad = b; place = place }
+  abbrev more : Bool → Option ℕ → Survey
+  more b place = record { bad = b; place = place }
 
   -- what the record adds, by whether it is used
   by_use : (v : Bool) → is_used r ≡ v
-      → more (ltb 64 n || ((any_bad u || is_bad_record r) || ((v && stands_in r.quarter.0 u) || stands_twice u))) (place_or n (after (length u) (v && eqb r.quarter.0 q) (find q u)))
+      → more (ltb 64 n || ((any_bad u || is_bad_record r) || ((v && stands_in r.quarter.0 u) || stands_twice u))) (after (length u) (v && eqb r.quarter.0 q) (find q u))
       ≡ seen_of q n (u ++ (r ∷ []))
   unfolding holds
   by_use v e =
       (λ k. more
       (ltb 64 n || ((any_bad u || is_bad_record r) || ((sym e k && stands_in r.quarter.0 u) || stands_twice u)))
-      (place_or n (after (length u) (sym e k && eqb r.quarter.0 q) (find q u))))
-      ∙ (λ k. more (ltb 64 n || (sym (any_more r u) k || sym (twice-more r u) k)) (place_or n (sym (find-more r q u) k)))
+      (after (length u) (sym e k && eqb r.quarter.0 q) (find q u)))
+      ∙ (λ k. more (ltb 64 n || (sym (any_more r u) k || sym (twice-more r u) k)) (sym (find-more r q u) k))
 
-  one_used : length u ≤ n → is_used r ≡ true → looked_used (seen_of q n u) r (length u) (stands_in r.quarter.0 u) q ≡ seen_of q n (u ++ (r ∷ []))
+  one_used : is_used r ≡ true → looked_used (seen_of q n u) r (length u) (stands_in r.quarter.0 u) q ≡ seen_of q n (u ++ (r ∷ []))
   unfolding looked_used
-  one_used l e =
+  one_used e =
       (λ k. more
       (joined (stands_in r.quarter.0 u) (is_bad_record r) (ltb 64 n) (any_bad u) (stands_twice u) k)
-      (first_stays n (length u) (eqb r.quarter.0 q) (find q u) (λ i f. omega (arith, (find_right q i u f).1)) k))
+      (after (length u) (eqb r.quarter.0 q) (find q u)))
       ∙ by_use true e
 
   one_free : is_used r ≡ false → looked_free (seen_of q n u) r ≡ seen_of q n (u ++ (r ∷ []))
   unfolding looked_free
   one_free e =
-      (λ k. more (joined false (is_bad_record r) (ltb 64 n) (any_bad u) (stands_twice u) k) (none_more n (length u) (find q u) k))
+      (λ k. more (joined false (is_bad_record r) (ltb 64 n) (any_bad u) (stands_twice u) k) (none_more (length u) (find q u) k))
       ∙ by_use false e
 
 -- blanks at the end add nothing
-more_blanks : (q n : ℕ) (u v : Table) → AllBlank v → seen_of q n (u ++ v) ≡ seen_of q n u
-unfolding AllBlank looked_free is_bad_record is_blank flag
+more_blanks : (q n : ℕ) (u v : Table) → All IsBlank v → seen_of q n (u ++ v) ≡ seen_of q n u
+unfolding looked_free is_bad_record is_blank flag
 more_blanks q n u [] h = ap (seen_of q n) (append-nil u)
 more_blanks q n u (r ∷ v) h =
     ap (seen_of q n) (sym (append_snoc u r v))
-    ∙ more_blanks q n (u ++ (r ∷ [])) v h.1
-    ∙ ap (λ (x : StreamRecord). seen_of q n (u ++ (x ∷ []))) h.0
+    ∙ more_blanks q n (u ++ (r ∷ [])) v (All-tail IsBlank r v h)
+    ∙ ap (λ (x : StreamRecord). seen_of q n (u ++ (x ∷ []))) (blank-is r (All-head IsBlank r v h))
     ∙ sym (one_free q n blank u refl)
 
 blanks_after : (q : ℕ) (t : Table) (n i : ℕ) → Occupied t n i → survey_below q t i ≡ survey_below q t n
@@ -189,17 +164,17 @@ module _ (q : ℕ) (t : Table) (end : ℕ) (o : Occupied t (fitting (length t)) 
   pub inside : (i : ℕ) → i < end → (length t ≤ 64) × (i < length t)
   inside i l = fits_few (length t) i (omega (arith, o.0))
 
-  pub record Known (seen : List ℕ) (s : Survey) (i : ℕ) : Type 0 where
+  pub record Known (seen : List Bool) (s : Survey) (i : ℕ) : Type 0 where
     pub is : s ≡ survey_below q t i
     pub marks : Marked seen (take i t)
 
-  pub record Surveyed (seen : List ℕ) (s : Survey) (i : ℕ) : Type 0 where
+  pub record Surveyed (seen : List Bool) (s : Survey) (i : ℕ) : Type 0 where
     pub within : i ≤ end
     pub size : length seen ≡ 256
     pub fits : length t ≤ 64 → Known seen s i
     pub over : 64 < length t → s ≡ nothing_seen (length t)
 
-  pub surveyed_first : (seen : List ℕ) (s : Survey) → length seen ≡ 256 → s ≡ nothing_seen (length t) → Surveyed seen s 0
+  pub surveyed_first : (seen : List Bool) (s : Survey) → length seen ≡ 256 → s ≡ nothing_seen (length t) → Surveyed seen s 0
   unfolding Marked survey_below
   surveyed_first seen s l e = record {
     within = omega arith;
@@ -208,10 +183,7 @@ module _ (q : ℕ) (t : Table) (end : ℕ) (o : Occupied t (fitting (length t)) 
     over = λ _. e;
   }
 
-  module _ (seen : List ℕ) (s s' : Survey) (i : ℕ) (p : i < end) (h : Surveyed seen s i) where
-    abbrev r : StreamRecord
-    r = get_or t i blank
-
+  module _ (seen : List Bool) (s s' : Survey) (i : ℕ) (p : i < end) (h : Surveyed seen s i) (r : StreamRecord) (r-is : r ≡ get_or t i blank) where
     below : i < length t
     below = (inside i p).1
 
@@ -225,10 +197,10 @@ module _ (q : ℕ) (t : Table) (end : ℕ) (o : Occupied t (fitting (length t)) 
     before = let l : i < length t = below in omega (arith, length-take i t)
 
     snoc : take (i + 1) t ≡ take i t ++ (r ∷ [])
-    snoc = ap (λ (k : ℕ). take k t) (add-one i) ∙ take-suc t i blank below
+    snoc = ap (λ (k : ℕ). take k t) (add-one i) ∙ take-suc t i blank below ∙ ap (λ (x : StreamRecord). take i t ++ (x ∷ [])) (sym r-is)
 
     -- one record more, whatever is made of it
-    onward : (seen' : List ℕ) (f : Survey → Survey) → length seen' ≡ 256 → s' ≡ f s → f (seen_of q (length t) (take i t)) ≡ seen_of q (length t) (take i t ++ (r ∷ []))
+    onward : (seen' : List Bool) (f : Survey → Survey) → length seen' ≡ 256 → s' ≡ f s → f (seen_of q (length t) (take i t)) ≡ seen_of q (length t) (take i t ++ (r ∷ []))
         → Marked seen' (take i t ++ (r ∷ [])) → Surveyed seen' s' (i + 1)
     unfolding survey_below
     onward seen' f l e one m = record {
@@ -241,45 +213,31 @@ module _ (q : ℕ) (t : Table) (end : ℕ) (o : Occupied t (fitting (length t)) 
       over = λ g. absurd (let n : ⊥ = omega (arith, few, g) in n);
     }
 
-    fitted : length (take i t) ≤ length t
-    fitted = let l : i < length t = below in omega (arith, before)
-
     pub surveyed_free : is_used r ≡ false → s' ≡ looked_free s r → Surveyed seen s' (i + 1)
     surveyed_free free e =
         onward seen (λ (v : Survey). looked_free v r) h.size e (one_free q (length t) r (take i t) free)
         (marked_more seen r (take i t) known.marks (λ y. absurd (true≢false (sym y ∙ free))))
 
-    module _ (b to : ℕ) (b-is : b ≡ r.quarter.0 % 256) (to_is : to ≡ searched_to (get_or seen b 0) i) where
-      pub searched_within : to ≤ length t
-      unfolding searched_to
-      searched_within = go (eqb (get_or seen b 0) 1) to_is
-        where
-          go : (m : Bool) → to ≡ cond m i 0 → to ≤ length t
-          go true e = let l : i < length t = below in omega arith
-          go false e = omega arith
-
+    module _ (b : ℕ) (b-is : b ≡ r.quarter.0 % 256) where
       -- the records before are searched where they must be
-      searched_right : stands_in r.quarter.0 (take to t) ≡ stands_in r.quarter.0 (take i t)
-      unfolding searched_to stands_in
-      searched_right = go (eqb (get_or seen b 0) 1) refl
+      searched_right : (get_or seen b false && stands_in r.quarter.0 (take i t)) ≡ stands_in r.quarter.0 (take i t)
+      searched_right = go (get_or seen b false) refl
         where
-          go : (m : Bool) → eqb (get_or seen b 0) 1 ≡ m → stands_in r.quarter.0 (take to t) ≡ stands_in r.quarter.0 (take i t)
-          go true y = let e : to ≡ i = to_is ∙ rw y in ap (λ (k : ℕ). stands_in r.quarter.0 (take k t)) e
-          go false y =
-              let e : to ≡ 0 = to_is ∙ rw y in
-              ap (λ (k : ℕ). stands_in r.quarter.0 (take k t)) e
-              ∙ sym (unmarked seen r.quarter.0 (take i t) known.marks (λ m. eqb-false (get_or seen b 0) 1 y (rw b-is m)))
+          go : (m : Bool) → get_or seen b false ≡ m → (m && stands_in r.quarter.0 (take i t)) ≡ stands_in r.quarter.0 (take i t)
+          go true y = refl
+          go false y = sym (unmarked seen r.quarter.0 (take i t) known.marks (λ m. false≢true (sym y ∙ rw b-is m)))
 
-      pub surveyed_used : (twice : Bool) → is_used r ≡ true → twice ≡ stands_in r.quarter.0 (take to t) → s' ≡ looked_used s r i twice q → Surveyed (set seen b 1) s' (i + 1)
+      pub surveyed_used : (twice : Bool) → is_used r ≡ true → twice ≡ (get_or seen b false && stands_in r.quarter.0 (take i t)) → s' ≡ looked_used s r i twice q
+          → Surveyed (set seen b true) s' (i + 1)
       surveyed_used twice used w e =
           let l : b < length seen = omega (arith, h.size, b-is) in
-          onward (set seen b 1) (λ (v : Survey). looked_used v r (length (take i t)) (stands_in r.quarter.0 (take i t)) q) (length-set seen b 1 ∙ h.size)
+          onward (set seen b true) (λ (v : Survey). looked_used v r (length (take i t)) (stands_in r.quarter.0 (take i t)) q) (length-set seen b true ∙ h.size)
           (e ∙ (λ k. looked_used s r (sym before k) ((w ∙ searched_right) k) q))
-          (one_used q (length t) r (take i t) fitted used)
-          (marked_more (set seen b 1) r (take i t) (stay seen b l (take i t) known.marks)
-          (λ _. subst (λ (k : ℕ). get_or (set seen b 1) k 0 ≡ 1) b-is (get_or-set_same seen b 1 0 l)))
+          (one_used q (length t) r (take i t) used)
+          (marked_more (set seen b true) r (take i t) (stay seen b l (take i t) known.marks)
+          (λ _. subst (λ (k : ℕ). get_or (set seen b true) k false ≡ true) b-is (get_or-set_same seen b true false l)))
 
-  pub surveyed_end : (seen : List ℕ) (s : Survey) (i : ℕ) → end ≤ i → Surveyed seen s i → s ≡ survey_of q t
+  pub surveyed_end : (seen : List Bool) (s : Survey) (i : ℕ) → end ≤ i → Surveyed seen s i → s ≡ survey_of q t
   unfolding survey_of fitting
   surveyed_end seen s i z h = go (leb (length t) 64) refl
     where
@@ -293,21 +251,10 @@ module _ (q : ℕ) (t : Table) (end : ℕ) (o : Occupied t (fitting (length t)) 
 
 -- ---- the answer out of the survey
 
-module _ (q : ℕ) (t : Table) where
-  -- a good table, by what was found
-  said : (b : Bool) (f : Found) → find q t ≡ f
-      → let p = place_or (length t) f in
-      cond b BadTable (cond (ltb p (length t)) (Good (Present p (get_or t p blank))) (Good Absent)) ≡ cond b BadTable (Good (entry_at t f))
-  unfolding place_or entry_at
-  said true f e = refl
-  said false Nothing e = rw (le-ltb (length t) (length t) (omega arith))
-  said false (At i) e = rw (lt-ltb i (length t) (find_right q i t e).1)
-
-  pub lookup_right : (s : Survey) (r : StreamRecord) → s ≡ survey_of q t → r ≡ get_or t s.place blank → lookup_in s r ≡ lookup_of q t
-  unfolding survey_of survey_below nothing_seen lookup_in lookup_of is_bad
-  lookup_right s r e g = rw (g, e) (go (leb (length t) 64) refl)
-    where
-      go : (b : Bool) → leb (length t) 64 ≡ b
-          → let u = cond b (survey_below q t (length t)) (nothing_seen (length t)) in lookup_in u (get_or t u.place blank) ≡ lookup_of q t
-      go true x = rw (take-length t) (said (is_bad t) (find q t) refl)
-      go false x = rw (lt-ltb 64 (length t) (leb-false (length t) 64 x))
+pub lookup_right : (q : ℕ) (t : Table) (s : Survey) → s ≡ survey_of q t → lookup_in s t ≡ lookup_of q t
+unfolding survey_of survey_below nothing_seen lookup_in lookup_of is_bad
+lookup_right q t s e = rw e (go (leb (length t) 64) refl)
+  where
+    go : (b : Bool) → leb (length t) 64 ≡ b → lookup_in (cond b (survey_below q t (length t)) (nothing_seen (length t))) t ≡ lookup_of q t
+    go true x = rw (take-length t) refl
+    go false x = rw (lt-ltb 64 (length t) (leb-false (length t) 64 x))

@@ -1,3 +1,2 @@
 mod Terms
-pub mod Words
 pub mod Lowest

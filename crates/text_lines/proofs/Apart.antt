@@ -1,6 +1,8 @@
 -- No two lines are alike: each is read back. Assumes nothing.
+use Rattle.std.specs.Prelude.{Ok, Err}
+use Rattle.capsule.specs.declared.reader.Ending.TheVariants.{Clean, Truncated}
 use Rattle.walks.proofs.Words.{◌≡◌, refl, sym, ap, ◌∙◌, ℕ, ◌<◌, cond, List, [], ◌∷◌, ◌++◌, append_assoc, arith, lt-ltb, le-ltb, drop, get_or, ltb, eqb}
-use Rattle.text_lines.proofs.Terms.{Delivered, Dropped, Skipped, Passed, AddressDelivered, Malformed, Refused, Clean, Truncated, text, decimal, value, one_number, two_numbers, limit_line, report_line, end_line, AllDigits, Said, limit, report, end, line_of, LinesDiffer}
+use Rattle.text_lines.proofs.Terms.{Delivered, Dropped, Skipped, Passed, AddressDelivered, Malformed, text, decimal, value, one_number, two_numbers, limit_line, report_line, end_line, AllDigits, Said, limit, report, end, line_of, LinesDiffer}
 use Rattle.text_lines.proofs.Decimals.{read_back, digits_only}
 
 -- the digits at the front, and what follows them and the byte behind them
@@ -51,9 +53,9 @@ two_in make s = make (number s) (number (behind s))
 
 abbrev end_in : List ℕ → Said
 end_in s =
-    cond (eqb (get_or s 4 0) 99) (end Clean)
-    (cond (eqb (get_or s 4 0) 116) (end Truncated)
-    (end (Refused (record { 0 = number (drop 12 s) }))))
+    cond (eqb (get_or s 4 0) 99) (end (Ok Clean))
+    (cond (eqb (get_or s 4 0) 116) (end (Ok Truncated))
+    (end (Err (record { 0 = number (drop 12 s) }))))
 
 abbrev said_in : List ℕ → Said
 said_in s =
@@ -75,9 +77,9 @@ line_read (report (Skipped t n)) = two_found t n (λ m n. report (Skipped m n))
 line_read (report (Passed t n)) = two_found t n (λ m n. report (Passed m n))
 line_read (report (AddressDelivered t n)) = two_found t n (λ m n. report (AddressDelivered m n))
 line_read (report (Malformed t n)) = two_found t n (λ m n. report (Malformed m n))
-line_read (end Clean) = refl
-line_read (end Truncated) = refl
-line_read (end (Refused r)) = ap (λ (k : ℕ). end (Refused (record { 0 = k }))) (one_found r.0)
+line_read (end (Ok Clean)) = refl
+line_read (end (Ok Truncated)) = refl
+line_read (end (Err r)) = ap (λ (k : ℕ). end (Err (record { 0 = k }))) (one_found r.0)
 
 pub lines_differ : LinesDiffer
 lines_differ a b e = sym (line_read a) ∙ ap said_in e ∙ line_read b

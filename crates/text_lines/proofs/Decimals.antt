@@ -1,6 +1,8 @@
 -- Decimal text. Assumes nothing.
-use Rattle.walks.proofs.Words.{◌≡◌, refl, sym, ap, ◌∙◌, ℕ, zero, suc, ◌+◌, ◌-◌, ◌*◌, ◌/◌, ◌%◌, ◌^◌, ◌≤◌, ◌<◌, div-one, div-div-eq-div-mul, pow-suc, pow-succ', one-le-pow, arith, List, [], ◌∷◌, ◌++◌, append-nil, append_assoc, length, get_or, length-append, get_or-append, mod-mul, lit<, lt-ltb, le-ltb}
-use Rattle.text_lines.proofs.Terms.{split, text, last_digit, digits, decimal_by, decimal, value_from, value, AllDigits, ReadBack, DigitsOnly, NoLeadingZero}
+use Rattle.walks.proofs.Words.{◌≡◌, refl, sym, ap, ◌∙◌, ℕ, zero, suc, ◌+◌, ◌-◌, ◌*◌, ◌/◌, ◌%◌, ◌^◌, ◌≤◌, ◌<◌, pow-succ', arith, List, [], ◌∷◌, ◌++◌, length, get_or, length-append, get_or-append, lt-ltb, le-ltb}
+use Rattle.std.specs.Fmt as Fmt
+use Rattle.std.proofs.lemmas.Fmt.{decimal_by_steps}
+use Rattle.text_lines.proofs.Terms.{split, text, last_digit, decimal_by, decimal, value_from, value, AllDigits, ReadBack, DigitsOnly, NoLeadingZero}
 
 -- ---- digit by digit
 
@@ -83,59 +85,6 @@ pub no_leading_zero : NoLeadingZero
 unfolding decimal decimal_by last_digit text
 no_leading_zero = (refl, λ n h. (spelt_first (spells n) h).1)
 
--- ---- several digits at a time
-
-pub length_digits : (k n : ℕ) → length (digits k n) ≡ k
-unfolding digits
-length_digits zero n = refl
-length_digits (suc k) n = rw (length-append, length_digits k (n / 10)) (omega arith)
-
--- the digits of a number's part, and its last k
-pub decimal_split : (k n : ℕ) → 10 ^ k ≤ n → decimal n ≡ decimal (n / 10 ^ k) ++ digits k n
-unfolding digits
-decimal_split zero n h = rw (div-one, append-nil)
-decimal_split (suc k) n h =
-    let p : 1 ≤ 10 ^ k = one-le-pow k 10 (lit< tt) in
-    let l : 10 * 10 ^ k ≤ n = rw (← (pow-succ' 10 k)) h in
-    let m : 10 ^ k ≤ n / 10 = omega arith in
-    decimal_above n (omega arith)
-    ∙ ap (λ (s : List ℕ). s ++ (last_digit n ∷ [])) (decimal_split k (n / 10) m)
-    ∙ append_assoc (decimal (n / 10 / 10 ^ k)) (digits k (n / 10)) (last_digit n ∷ [])
-    ∙ rw (pow-succ' 10 k, div-div-eq-div-mul)
-
--- only the last k digits of a number count
-pub digits_mod : (k n : ℕ) → digits k (n % 10 ^ k) ≡ digits k n
-unfolding digits last_digit
-digits_mod zero n = refl
-digits_mod (suc k) n =
-    let p : 0 < 10 ^ k = one-le-pow k 10 (lit< tt) in
-    let e : n % 10 ^ suc k ≡ (n / 10 % 10 ^ k) * 10 + n % 10 = rw (pow-suc 10 k) (mod-mul n {m = 10 ^ k} {c = 10} p (lit< tt)) in
-    let a : n % 10 ^ suc k / 10 ≡ n / 10 % 10 ^ k = rw e (omega arith) in
-    let b : n % 10 ^ suc k % 10 ≡ n % 10 = rw e (omega arith) in
-    rw (a, b, digits_mod k (n / 10))
-
-pub digits_join : (j k n : ℕ) → digits (j + k) n ≡ digits j (n / 10 ^ k) ++ digits k n
-unfolding digits
-digits_join j zero n = let e : j + 0 ≡ j = omega arith in rw (e, div-one, append-nil)
-digits_join j (suc k) n =
-    let e : j + suc k ≡ suc (j + k) = omega arith in
-    rw (e, digits_join j k (n / 10), append_assoc, pow-succ' 10 k, div-div-eq-div-mul)
-
--- a number of k + 1 digits
-module _ (k n : ℕ) (low : 10 ^ k ≤ n) (high : n / 10 ^ k < 10) where
-  pub decimal-first : decimal n ≡ (48 + n / 10 ^ k) ∷ digits k n
-  unfolding last_digit
-  decimal-first =
-      let e : n / 10 ^ k % 10 ≡ n / 10 ^ k = omega arith in
-      decimal_split k n low ∙ rw (decimal-below (n / 10 ^ k) high, e)
-
-  pub decimal-digits : decimal n ≡ digits (1 + k) n
-  unfolding digits
-  decimal-digits = decimal_split k n low ∙ rw (decimal-below (n / 10 ^ k) high, digits_join 1 k n)
-
-  pub length-decimal : suc k ≡ length (decimal n)
-  length-decimal = rw (decimal-first, length_digits k n)
-
 -- a number below a power of ten has no more digits than the power has zeros
 pub length_most : (k n : ℕ) → n < 10 ^ suc k → length (decimal n) ≤ suc k
 length_most zero n h = rw (decimal-below n h) (omega arith)
@@ -148,8 +97,9 @@ length_most (suc k) n h = split 10 n
 
 -- ---- as the code goes
 
-pub size-one : (n : ℕ) → n < 10 → 1 ≡ length (decimal n)
-size-one n h = rw (decimal-below n h)
-
-pub four-more : (n : ℕ) → 10000 ≤ n → length (decimal n) ≡ length (decimal (n / 10000)) + 4
-four-more n h = rw (decimal_split 4 n h, length-append, length_digits)
+-- what `itoa` writes
+pub decimal_written : (n : ℕ) → n < 2 ^ 64 → Fmt.decimal n ≡ decimal n
+unfolding last_digit
+decimal_written = decimal_by_steps (λ n s. s ≡ decimal n)
+    (λ n h. let e : n % 10 ≡ n = omega arith in rw (decimal-below n h, e))
+    (λ n s h e. rw e (sym (decimal_above n h)))

@@ -1,11 +1,11 @@
 -- What holds of the definitions. Each claim is a type here, and is proved in proofs/Decimals.antt, proofs/Apart.antt or proofs/Samples.antt.
-use Rattle.std.specs.Prelude.{◌≡◌, ℕ, ◌≤◌, ◌<◌, List, [], ◌∷◌, ◌++◌, map, get_or}
+use Rattle.refusals.specs.declared.Refusal.{Refusal}
+use Rattle.capsule.specs.declared.reader.Ending.{Ending}
+use Rattle.capsule.specs.declared.reader.Ending.TheVariants.{Clean, Truncated}
+use Rattle.std.specs.Prelude.{◌≡◌, ℕ, ◌≤◌, ◌<◌, List, [], ◌∷◌, ◌++◌, map, get_or, Some, None, Result, Ok, Err}
 use Rattle.refusals.specs.Numbers.{refusal}
 use Rattle.opening.specs.declared.Report.{Report}
 use Rattle.opening.specs.declared.Report.TheVariants.{Delivered, Dropped, Skipped, Passed, AddressDelivered, Malformed}
-use Rattle.capsule.specs.declared.reader.CloseAnswer.{CloseAnswer}
-use Rattle.capsule.specs.declared.reader.CloseAnswer.TheVariants.{Refused, Clean, Truncated}
-use Rattle.text_lines.specs.declared.Line.TheVariants.{Written, NoRoom}
 use Rattle.text_bytes.specs.Text.{text}
 use Rattle.text_lines.specs.Lines.{limit_line, report_line, end_line}
 use Rattle.text_lines.specs.Decimal.{decimal, value}
@@ -30,7 +30,7 @@ NoLeadingZero = (decimal 0 ≡ text "0") × ((n : ℕ) → 0 < n → 48 < get_or
 pub data Said : Type 0 where
   limit : ℕ → Said
   report : Report → Said
-  end : CloseAnswer → Said
+  end : Result Ending Refusal → Said
 
 abbrev pub line_of : Said → List ℕ
 line_of (limit n) = limit_line n
@@ -40,18 +40,18 @@ line_of (end a) = end_line a
 -- document 01's listing of stream S, whole, its other two lines, and the four that it does not have
 abbrev pub ListingOfS : Type 0
 ListingOfS =
-    limit_line 1200 ++ report_line (Delivered 3) ++ report_line (Skipped 23 0) ++ report_line (Skipped 64 2) ++ report_line (Delivered 0) ++ end_line Clean
+    limit_line 1200 ++ report_line (Delivered 3) ++ report_line (Skipped 23 0) ++ report_line (Skipped 64 2) ++ report_line (Delivered 0) ++ end_line (Ok Clean)
     ≡ text "limit 1200\ndatagram 3\nskip 23 0\nskip 64 2\ndatagram 0\nend clean\n"
 
 -- a line, and its text
 abbrev pub other_lines : List (Said × List ℕ)
 other_lines =
     (report (Dropped 1201), text "drop 1201\n")
-    ∷ (end Truncated, text "end truncated\n")
+    ∷ (end (Ok Truncated), text "end truncated\n")
     ∷ (report (Passed 23 5), text "pass 23 5\n")
     ∷ (report (AddressDelivered 1 1024), text "address 1 1024\n")
     ∷ (report (Malformed 2 0), text "malformed 2 0\n")
-    ∷ (end (Refused (refusal 2)), text "end refused 2\n")
+    ∷ (end (Err (refusal 2)), text "end refused 2\n")
     ∷ []
 
 abbrev pub OtherLines : Type 0
@@ -64,9 +64,9 @@ LinesDiffer = (a b : Said) → line_of a ≡ line_of b → a ≡ b
 -- a line goes to its place, up to the output's end; where it does not fit nothing changes: an output, a place, and what comes of `ab`
 abbrev pub places : List (List ℕ × ℕ × Writing)
 places =
-    (9 ∷ 9 ∷ 9 ∷ 9 ∷ [], 1, writing (Written 2) (9 ∷ 97 ∷ 98 ∷ 9 ∷ []))
-    ∷ (9 ∷ 9 ∷ 9 ∷ [], 1, writing (Written 2) (9 ∷ 97 ∷ 98 ∷ []))
-    ∷ (9 ∷ 9 ∷ 9 ∷ [], 2, writing NoRoom (9 ∷ 9 ∷ 9 ∷ []))
+    (9 ∷ 9 ∷ 9 ∷ 9 ∷ [], 1, writing (Some 2) (9 ∷ 97 ∷ 98 ∷ 9 ∷ []))
+    ∷ (9 ∷ 9 ∷ 9 ∷ [], 1, writing (Some 2) (9 ∷ 97 ∷ 98 ∷ []))
+    ∷ (9 ∷ 9 ∷ 9 ∷ [], 2, writing None (9 ∷ 9 ∷ 9 ∷ []))
     ∷ []
 
 abbrev pub Placed : Type 0

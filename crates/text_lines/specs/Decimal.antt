@@ -5,11 +5,6 @@ use Rattle.std.specs.Prelude.{ℕ, zero, suc, ◌+◌, ◌-◌, ◌*◌, ◌/◌
 unfoldable pub last_digit : ℕ → ℕ
 last_digit n = 48 + n % 10
 
--- the last k digits of a number
-unfoldable pub digits : ℕ → ℕ → List ℕ
-digits zero n = []
-digits (suc k) n = digits k (n / 10) ++ (last_digit n ∷ [])
-
 -- at most `most` digits: those of a tenth of the number, if it is not below 10, and the last
 unfoldable pub decimal_by : ℕ → ℕ → List ℕ
 decimal_by zero n = []

@@ -1,9 +1,10 @@
 -- What the listing program prints (document 01, "Bench cases").
-use Rattle.std.specs.Prelude.{ℕ, List, ◌++◌}
+use Rattle.refusals.specs.declared.Refusal.{Refusal}
+use Rattle.capsule.specs.declared.reader.Ending.{Ending}
+use Rattle.capsule.specs.declared.reader.Ending.TheVariants.{Clean, Truncated}
+use Rattle.std.specs.Prelude.{ℕ, List, ◌++◌, Result, Ok, Err}
 use Rattle.opening.specs.declared.Report.{Report}
 use Rattle.opening.specs.declared.Report.TheVariants.{Delivered, Dropped, Skipped, Passed, AddressDelivered, Malformed}
-use Rattle.capsule.specs.declared.reader.CloseAnswer.{CloseAnswer}
-use Rattle.capsule.specs.declared.reader.CloseAnswer.TheVariants.{Refused, Clean, Truncated}
 use Rattle.text_bytes.specs.Text.{text}
 use Rattle.text_lines.specs.Decimal.{decimal}
 
@@ -30,10 +31,10 @@ report_line (AddressDelivered t n) = two_numbers (text "address ") t n
 report_line (Malformed t n) = two_numbers (text "malformed ") t n
 
 -- the last line; `end refused` is not in document 01, whose listing program comes to no refusal
-unfoldable pub end_line : CloseAnswer → List ℕ
-end_line Clean = text "end clean\n"
-end_line Truncated = text "end truncated\n"
-end_line (Refused r) = one_number (text "end refused ") r.0
+unfoldable pub end_line : Result Ending Refusal → List ℕ
+end_line (Ok Clean) = text "end clean\n"
+end_line (Ok Truncated) = text "end truncated\n"
+end_line (Err r) = one_number (text "end refused ") r.0
 
 -- no line is longer, since a number of 64 bits has at most 20 digits
 abbrev pub longest : ℕ

@@ -1,7 +1,6 @@
 // Reports and endings as lines of text (document 01, "Bench cases").
 #![tactic(auto)]
 
-mod decimal;
 mod writing;
 
 ghost use Rattle.std.specs.Prelude.{◌≡◌, ◌≤◌, length};
@@ -9,23 +8,17 @@ ghost use Rattle.text_lines.specs.Lines.{limit_line, report_line, end_line, long
 ghost use Rattle.text_lines.specs.Writing.{writing, write_at};
 
 use crate::writing::{write_one, write_text, write_two};
-use capsule::reader::CloseAnswer;
+use capsule::reader::Ending;
 use opening::Report;
+use refusals::Refusal;
 
-// What became of a line.
-#[derive(Clone, Copy)]
-pub enum Line {
-    // its length
-    Written { size: usize },
-    // nothing was changed
-    NoRoom,
-}
+// Each function below answers the length of its line, and nothing where it has no room: then nothing is changed.
 
 // No line is longer.
 pub const LONGEST: usize = 64;
 
 // The first line, at a place of the output.
-pub fn write_limit(limit: u64, out: &mut [u8], place: usize) -> Line
+pub fn write_limit(limit: u64, out: &mut [u8], place: usize) -> Option<usize>
     ensures out_after { writing result out.new ≡ write_at (limit_line limit) out.old place }
     ensures limit_len_bound { length (limit_line limit) ≤ longest }
 {
@@ -33,7 +26,7 @@ pub fn write_limit(limit: u64, out: &mut [u8], place: usize) -> Line
 }
 
 // The line of a report.
-pub fn write_report(report: Report, out: &mut [u8], place: usize) -> Line
+pub fn write_report(report: Report, out: &mut [u8], place: usize) -> Option<usize>
     ensures out_after { writing result out.new ≡ write_at (report_line report) out.old place }
     ensures report_len_bound { length (report_line report) ≤ longest }
 {
@@ -50,13 +43,15 @@ pub fn write_report(report: Report, out: &mut [u8], place: usize) -> Line
 }
 
 // The last line.
-pub fn write_end(end: CloseAnswer, out: &mut [u8], place: usize) -> Line
+pub fn write_end(end: Result<Ending, Refusal>, out: &mut [u8], place: usize) -> Option<usize>
     ensures out_after { writing result out.new ≡ write_at (end_line end) out.old place }
     ensures end_len_bound { length (end_line end) ≤ longest }
 {
     match end {
-        CloseAnswer::Clean => write_text(b"end clean\n", out, place),
-        CloseAnswer::Truncated => write_text(b"end truncated\n", out, place),
-        CloseAnswer::Refused(why) => write_one(b"end refused ", why.0 as u64, out, place),
+        Ok(ending) => match ending {
+            Ending::Clean => write_text(b"end clean\n", out, place),
+            Ending::Truncated => write_text(b"end truncated\n", out, place),
+        },
+        Err(why) => write_one(b"end refused ", why.0 as u64, out, place),
     }
 }

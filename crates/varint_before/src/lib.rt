@@ -1,5 +1,5 @@
-// Varints as they were read before request 3, with tests of its own for the short forms: what bench/calls measures beside
-// `read_varint`. The long forms are read by `read_long`, which request 3 did not change in the machine code.
+// Varints as they were read before request 3, with tests of its own for the short forms: what bench/calls measures
+// beside `read_varint`. The long forms are read by `read_long`, which request 3 did not change in the machine code.
 #![tactic(auto)]
 
 ghost use Rattle.std.specs.Prelude.{◌≡◌};
@@ -16,28 +16,23 @@ pub extern "C" fn mrz_read_varint_before(bytes: &[u8]) -> VarintAnswer
     varint_answer(read_before(bytes))
 }
 
-fn read_before(s: &[u8]) -> Varint
+#[tactic(auto, using(wire::proofs::Reading::front_none, wire::proofs::Reading::front_one, wire::proofs::Reading::front_less, wire::proofs::Forms::from_128, wire::proofs::Forms::short_found, short_forms::proofs::Short::first_two))]
+fn read_before(s: &[u8]) -> Option<Varint>
     ensures { result ≡ read_varint s.now }
 {
-    let room = s.len();
-    if room == 0 {
-        return Varint::Incomplete;
-    }
-    let first = s[0];
+    let &first = s.first()?;
     if first < Varint::FIRST_OF_2 {
-        return Varint::Whole {
-            value: first as u64,
+        return Some(Varint {
+            value: u64::from(first),
             size: 1,
-        };
+        });
     }
-    if first < Varint::FIRST_OF_4 {
-        if room < 2 {
-            return Varint::Incomplete;
-        }
-        return Varint::Whole {
-            value: ((first as u64) * 256 + (s[1] as u64)) % 16384,
-            size: 2,
-        };
+    if first >= Varint::FIRST_OF_4 {
+        return read_long(s);
     }
-    read_long(s)
+    let &second = s.get(1)?;
+    Some(Varint {
+        value: (u64::from(first) * 256 + u64::from(second)) % 16384,
+        size: 2,
+    })
 }

@@ -1,8 +1,9 @@
 -- What a writer leaves. Assumes nothing.
+use Rattle.std.specs.Prelude.{Ok, Err}
 use Rattle.walks.proofs.Words.{◌≡◌, refl, sym, ℕ, ◌+◌, arith, Bool, true, false, cond, List, length, leb}
-use Rattle.wire.proofs.Terms.{Refusal, output_too_short, number_too_large, Refused, Wrote, largest, encode, Writing, refuses, write_at, write_varint, Leaves, VarintLeaves}
+use Rattle.wire.proofs.Terms.{Refusal, output_too_short, number_too_large, largest, encode, Writing, refuses, write_at, write_varint, Leaves, VarintLeaves}
 
-no_both {ℓ} : {X : Type ℓ} {r : Refusal} {k : ℕ} → Refused r ≡ Wrote k → X
+no_both {ℓ} : {X : Type ℓ} {r : Refusal} {k : ℕ} → Err r ≡ Ok k → X
 no_both e = absurd (let m : ◌≡◌ {A = ℕ} 0 1 = cc in let n : ⊥ = omega arith in n)
 
 module _ (bytes out : List ℕ) (place : ℕ) where

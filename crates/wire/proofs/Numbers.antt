@@ -1,5 +1,9 @@
 -- Bytes and big-endian numbers. Assumes nothing.
-use Rattle.walks.proofs.Words.{◌≡◌, refl, sym, ap, ◌∙◌, ℕ, zero, suc, ◌+◌, ◌*◌, ◌/◌, ◌%◌, ◌^◌, ◌≤◌, ◌<◌, add-zero, div-div-eq-div-mul, pow-suc, pow-succ', div-one, mod-eq_of_lt, div-lt_iff_lt-mul, one-le-pow, add-one, arith, List, [], ◌∷◌, ◌++◌, length, get_or, take, drop, set, length-drop, take-suc, drop-cons, drop-drop, take-add, length-take-le, sets, digits_div, digits_mod, mod-mul, pow-add, pow_mono, lit<}
+use Rattle.walks.proofs.Words.{◌≡◌, refl, sym, ap, ◌∙◌, ℕ, zero, suc, ◌+◌, ◌*◌, ◌/◌, ◌%◌, ◌^◌, ◌≤◌, ◌<◌, add-zero, div-div-eq-div-mul, pow-suc, pow-succ', div-one, mod-eq_of_lt, div-lt_iff_lt-mul, one-le-pow, add-one, arith, List, [], ◌∷◌, ◌++◌, append_assoc, length, get_or, take, drop, set, take-suc, length-take-le, sets, digits_div, digits_mod, mod-mul, pow-add, pow_mono, lit<}
+use Rattle.std.specs.Array.{IsFirstChunk}
+use Rattle.std.specs.Int.{w32, w64, bytes_high_first, from_be_bytes}
+use Rattle.std.proofs.lemmas.{Nat.be_bytes_4, Nat.be_bytes_8, Slice.put_mid-paste, List.Edits.paste_all, List.Edits.sets-eq}
+use borrow.Rule.Slice.PartMut.{put_mid}
 use Rattle.wire.proofs.Terms.{Bytes, num_from, num, bytes_of}
 
 -- ---- bytes
@@ -44,12 +48,6 @@ unfolding num_from num
 num_from_shift n [] = omega arith
 num_from_shift n (b ∷ s) =
     rw (num_from_shift (n * 256 + b) s, num_from_shift (0 * 256 + b) s, pow-succ' 256 (length s)) (omega arith)
-
-pub num_join : (s t : List ℕ) → num (s ++ t) ≡ num s * 256 ^ length t + num t
-num_join s t = joined ∙ num_from_shift (num s) t
-  where
-    joined : num (s ++ t) ≡ num_from (num s) t
-    joined = unfold num in num_from-append 0 s t
 
 pub num_from_div : (n : ℕ) (s : List ℕ) → Bytes s → num_from n s / 256 ^ length s ≡ n
 unfolding num_from
@@ -145,36 +143,43 @@ number-room k n h l =
     let e : 256 ^ k ≤ 2 ^ 56 = let m : 8 * k ≤ 56 = omega arith in rw (← (pow_256 k)) (pow_mono m) in
     omega arith
 
--- a number of a + b bytes, by its two halves
-module _ (s : List ℕ) (at : ℕ) where
-  pub number-one : at < length s → get_or s at 0 ≡ num (take 1 (drop at s))
-  unfolding num num_from
-  number-one h = rw (drop-cons s at 0 h) (omega arith)
+pub number-one : (s : List ℕ) → 0 < length s → get_or s 0 0 ≡ num (take 1 s)
+unfolding num num_from
+number-one [] h = absurd (let z : ⊥ = omega arith in z)
+number-one (b ∷ s) h = omega arith
 
-  pub number_halves : (a b x y : ℕ) → at + (a + b) ≤ length s → x ≡ num (take a (drop at s)) → y ≡ num (take b (drop (at + a) s))
-      → x * 256 ^ b + y ≡ num (take (a + b) (drop at s))
-  number_halves a b x y h e d =
-      let l : length (take b (drop (at + a) s)) ≡ b = length-take-le b (drop (at + a) s) (omega (arith, length-drop (at + a) s)) in
-      rw (take-add a b (drop at s), drop-drop a at s, num_join (take a (drop at s)) (take b (drop (at + a) s)), l, ← e, ← d)
+-- the library's big-endian numbers
+be_bytes_of : (k n : ℕ) → bytes_high_first k n ≡ bytes_of k n
+unfolding bytes_of
+be_bytes_of zero n = refl
+be_bytes_of (suc zero) n = let e : n % 256 ≡ n / 256 ^ 0 % 256 = omega arith in ap (λ (b : ℕ). b ∷ []) e
+be_bytes_of (suc (suc k)) n = ap (λ (s : List ℕ). n / 256 ^ suc k % 256 ∷ s) (be_bytes_of (suc k) n)
 
--- a number's bytes are put in place half by half
+each_byte : (s : List ℕ) → Bytes s → (i : ℕ) → get_or s i 0 < 256
+each_byte [] h i = omega arith
+each_byte (b ∷ s) h zero = h.0
+each_byte (b ∷ s) h (suc i) = each_byte s h.1 i
+
+pub be_four : (s b : List ℕ) (n : ℕ) → Bytes s → IsFirstChunk s b 4 → n ≡ from_be_bytes w32 b → bytes_of 4 n ≡ take 4 s
+be_four s b n h f e =
+    sym (be_bytes_of 4 n) ∙ be_bytes_4 (take 4 s) n (length-take-le 4 s f.enough) (each_byte (take 4 s) (bytes_take 4 s h)) (rw f.same at e)
+
+pub be_eight : (s b : List ℕ) (n : ℕ) → Bytes s → IsFirstChunk s b 8 → n ≡ from_be_bytes w64 b → bytes_of 8 n ≡ take 8 s
+be_eight s b n h f e =
+    sym (be_bytes_of 8 n) ∙ be_bytes_8 (take 8 s) n (length-take-le 8 s f.enough) (each_byte (take 8 s) (bytes_take 8 s h)) (rw f.same at e)
+
+-- k bytes of a number, put in place
+pub put_bytes : (o : List ℕ) (at k m n : ℕ) (w : List ℕ) → w ≡ bytes_high_first k n → m ≡ k → at + k ≤ length o
+    → put_mid at m o w ≡ sets o at (bytes_of k n)
+put_bytes o at k m n w e d h =
+    let l = length-bytes_of k n in
+    let is_w : w ≡ bytes_of k n = e ∙ be_bytes_of k n in
+    put_mid-paste at m o w (bytes_of k n) k is_w (sym d) (sym l) ∙ paste_all o at (bytes_of k n) k (sym l)
+    ∙ sym (append_assoc (take at o) (bytes_of k n) (drop (at + k) o)) ∙ sym (rw l at (sets-eq (bytes_of k n) o at (rw l h)))
+
+-- one run of bytes put in place, and another after it
 pub sets-append : (l : List ℕ) (i : ℕ) (v w : List ℕ) → sets (sets l i v) (i + length v) w ≡ sets l i (v ++ w)
 sets-append l i [] w = ap (λ (k : ℕ). sets l k w) (add-zero i)
 sets-append l i (a ∷ v) w =
     let e : i + suc (length v) ≡ suc i + length v = omega arith in
     ap (λ (k : ℕ). sets (sets (set l i a) (suc i) v) k w) e ∙ sets-append (set l i a) (suc i) v w
-
-pub put_halves : (o : List ℕ) (at a b n : ℕ)
-    → sets (sets o at (bytes_of a (n / 256 ^ b))) (at + a) (bytes_of b (n % 256 ^ b)) ≡ sets o at (bytes_of (a + b) n)
-put_halves o at a b n =
-    let l : length (bytes_of a (n / 256 ^ b)) ≡ a = length-bytes_of a (n / 256 ^ b) in
-    let w : List ℕ = bytes_of b (n % 256 ^ b) in
-    ap (λ (k : ℕ). sets (sets o at (bytes_of a (n / 256 ^ b))) (at + k) w) (sym l)
-    ∙ sets-append o at (bytes_of a (n / 256 ^ b)) w ∙ ap (sets o at) (sym (bytes_of_halves a b n))
-
-pub put_two : (o : List ℕ) (at n : ℕ) → n < 65536 → set (set o at (n / 256)) (at + 1) (n % 256) ≡ sets o at (bytes_of 2 n)
-unfolding bytes_of
-put_two o at n h =
-    let a : n / 256 ^ 1 % 256 ≡ n / 256 = omega arith in
-    let b : n / 256 ^ 0 % 256 ≡ n % 256 = omega arith in
-    rw (a, b, add-one at)

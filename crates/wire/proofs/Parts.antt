@@ -1,6 +1,8 @@
 -- A varint of which a part has come. Assumes nothing.
-use Rattle.walks.proofs.Words.{◌≡◌, refl, sym, ap, ◌∙◌, subst, ℕ, zero, suc, ◌+◌, ◌-◌, ◌*◌, ◌/◌, ◌^◌, ◌≤◌, ◌<◌, pow-succ', div-lt_iff_lt-mul, arith, Bool, true, false, ◌&&◌, List, [], ◌∷◌, ◌++◌, length, take, length-append, take-append-add, take-length, ltb, eqb, ltb-true, lt-ltb, ne_eqb, eqb-true}
-use Rattle.wire.proofs.Terms.{Varint, Incomplete, Whole, Partial, Impossible, More, Ends, Bytes, num_from, num, bytes_of, size_of, value_of, read_varint, partial, partial_of, held_bytes, starts, is_partial, taken_of, take_varint, GoesOn, OccursExactly, ImpossibleExactly}
+use Rattle.std.specs.Prelude.{Option, Some, None}
+use Rattle.short_forms.specs.Short.{varint_of}
+use Rattle.walks.proofs.Words.{◌≡◌, refl, sym, ap, ◌∙◌, subst, ℕ, zero, suc, ◌+◌, ◌-◌, ◌*◌, ◌/◌, ◌^◌, ◌≤◌, ◌<◌, pow-succ', div-lt_iff_lt-mul, arith, Bool, true, false, ◌&&◌, List, [], ◌∷◌, ◌++◌, length, take, length-append, take-append-add, ltb, eqb, ltb-true, lt-ltb, eqb-true}
+use Rattle.wire.proofs.Terms.{Varint, Partial, Impossible, More, Ends, Bytes, num_from, num, bytes_of, size_of, value_of, read_varint, partial, partial_of, held_bytes, starts, is_partial, taken_of, take_varint, GoesOn, OccursExactly, ImpossibleExactly}
 use Rattle.wire.proofs.{Numbers.pow_256, Numbers.pow_256_pos, Numbers.num_lt, Numbers.num-first, Numbers.length-bytes_of, Numbers.bytes_of-bytes, Numbers.bytes_of-num, Numbers.num-bytes_of, Numbers.bytes_of-first, Numbers.num_from-append, Reading.size_of_le, Reading.read_nil, Reading.read_whole, Reading.read-less, Reading.less-read}
 
 -- ---- tests joined
@@ -15,7 +17,7 @@ parted false b e = (e, cc)
 
 -- ---- which parts occur
 
-starts_of : (s : List ℕ) → Bytes s → read_varint s ≡ Incomplete → starts (length s) (num s) ≡ true
+starts_of : (s : List ℕ) → Bytes s → read_varint s ≡ None → starts (length s) (num s) ≡ true
 unfolding starts num num_from
 starts_of [] h e = refl
 starts_of (b ∷ s) h e = both _ _ (lt-ltb _ _ (num_lt (b ∷ s) h)) (rw (num-first b s h.1) (lt-ltb _ _ (less-read b s e)))
@@ -51,14 +53,14 @@ held_fits (suc k) raw e = (started k raw e).fits
 held_num : (have raw : ℕ) → starts have raw ≡ true → num (bytes_of have raw) ≡ raw
 held_num have raw e = num-bytes_of have raw (held_fits have raw e)
 
-held_incomplete : (have raw : ℕ) → starts have raw ≡ true → read_varint (bytes_of have raw) ≡ Incomplete
+held_incomplete : (have raw : ℕ) → starts have raw ≡ true → read_varint (bytes_of have raw) ≡ None
 unfolding bytes_of
 held_incomplete zero raw e = read_nil
 held_incomplete (suc k) raw e =
     let f = started k raw e in
-    subst (λ (s : List ℕ). read_varint s ≡ Incomplete) (sym (bytes_of-first k raw f.fits)) (read-less (raw / 256 ^ k) (bytes_of k raw) (rw length-bytes_of f.less))
+    subst (λ (s : List ℕ). read_varint s ≡ None) (sym (bytes_of-first k raw f.fits)) (read-less (raw / 256 ^ k) (bytes_of k raw) (rw length-bytes_of f.less))
 
-pub partial_occurs : (s : List ℕ) → Bytes s → read_varint s ≡ Incomplete → is_partial (partial_of s) ≡ true
+pub partial_occurs : (s : List ℕ) → Bytes s → read_varint s ≡ None → is_partial (partial_of s) ≡ true
 unfolding is_partial partial_of
 partial_occurs s h e = starts_of s h e
 
@@ -70,7 +72,7 @@ pub held_bytes_lem : (p : Partial) → Bytes (held_bytes p)
 unfolding held_bytes
 held_bytes_lem p = bytes_of-bytes p.have p.raw
 
-pub held_read : (p : Partial) → is_partial p ≡ true → read_varint (held_bytes p) ≡ Incomplete
+pub held_read : (p : Partial) → is_partial p ≡ true → read_varint (held_bytes p) ≡ None
 unfolding held_bytes is_partial
 held_read p e = held_incomplete p.have p.raw e
 
@@ -153,13 +155,13 @@ goes (suc k) raw h e =
     rw (shift_first k raw) (record { more = f.less; most = size_of_le (raw / 256 ^ k) f.byte; fits = f.fits; byte = rw (shift_first k raw) f.byte })
 
 module _ (s : List ℕ) where
-  joined-less : (k raw : ℕ) → starts (suc k) raw ≡ true → suc k + length s < size_of (raw / 256 ^ k) → read_varint (bytes_of (suc k) raw ++ s) ≡ Incomplete
+  joined-less : (k raw : ℕ) → starts (suc k) raw ≡ true → suc k + length s < size_of (raw / 256 ^ k) → read_varint (bytes_of (suc k) raw ++ s) ≡ None
   joined-less k raw e l =
       rw (bytes_of-first k raw (started k raw e).fits)
       (read-less (raw / 256 ^ k) (bytes_of k raw ++ s) (omega (arith, length-append (bytes_of k raw) s, length-bytes_of k raw)))
 
   joined-whole : (k raw m : ℕ) → starts (suc k) raw ≡ true → size_of (raw / 256 ^ k) ≡ suc k + m → m ≤ length s
-      → read_varint (bytes_of (suc k) raw ++ s) ≡ Whole (value_of (suc k + m) (num_from raw (take m s))) (suc k + m)
+      → read_varint (bytes_of (suc k) raw ++ s) ≡ Some (varint_of (value_of (suc k + m) (num_from raw (take m s))) (suc k + m))
   joined-whole k raw m e z l =
       let is_held = bytes_of-first k raw (started k raw e).fits in
       let front : take (suc k + m) (bytes_of (suc k) raw ++ s) ≡ bytes_of (suc k) raw ++ take m s =
@@ -191,19 +193,20 @@ module _ (s : List ℕ) where
 empty-take : (s : List ℕ) → take_varint (partial_of []) s ≡ taken_of 0 s (read_varint s)
 empty-take s = goes_on [] s tt read_nil
 
-module _ (s : List ℕ) (r : Varint) (e : r ≡ read_varint s) where
-  pub begins_whole : (v k : ℕ) → r ≡ Whole v k → Ends k v ≡ take_varint (partial_of []) s
+module _ (s : List ℕ) (r : Option Varint) (e : r ≡ read_varint s) where
+  pub begins_whole : (read : Varint) → r ≡ Some read → Ends read.size read.value ≡ take_varint (partial_of []) s
   unfolding taken_of
-  begins_whole v k d =
-      let z : k - 0 ≡ k = omega arith in
-      let w : read_varint s ≡ Whole v k = sym e ∙ d in
+  begins_whole read d =
+      let z : read.size - 0 ≡ read.size = omega arith in
+      let w : read_varint s ≡ Some read = sym e ∙ d in
       sym (empty-take s ∙ rw (w, z))
 
-  pub begins_part : r ≡ Incomplete → (n : ℕ) → n ≡ num_from 0 (take (length s) s) → More (partial (length s) n) ≡ take_varint (partial_of []) s
+  pub begins_part : r ≡ None → More (partial (0 + length s) (num_from 0 s)) ≡ take_varint (partial_of []) s
   unfolding taken_of partial_of num
-  begins_part d n is_n =
-      let w : read_varint s ≡ Incomplete = sym e ∙ d in
-      sym (empty-take s ∙ rw (w, is_n, take-length s))
+  begins_part d =
+      let w : read_varint s ≡ None = sym e ∙ d in
+      let z : 0 + length s ≡ length s = omega arith in
+      sym (empty-take s ∙ rw (w, z))
 
 pub empty-is : partial_of [] ≡ partial 0 0
 unfolding partial_of num num_from
@@ -215,10 +218,10 @@ pub take_impossible : (p : Partial) (s : List ℕ) → is_partial p ≡ false �
 unfolding take_varint
 take_impossible p s e = rw e
 
-taken_possible : (have : ℕ) (joined : List ℕ) (v : Varint) → taken_of have joined v ≡ Impossible → ⊥
+taken_possible : (have : ℕ) (joined : List ℕ) (v : Option Varint) → taken_of have joined v ≡ Impossible → ⊥
 unfolding taken_of
-taken_possible have joined Incomplete e = let z : ◌≡◌ {A = ℕ} 0 1 = cc in omega arith
-taken_possible have joined (Whole value size) e = let z : ◌≡◌ {A = ℕ} 0 1 = cc in omega arith
+taken_possible have joined None e = let z : ◌≡◌ {A = ℕ} 0 1 = cc in omega arith
+taken_possible have joined (Some read) e = let z : ◌≡◌ {A = ℕ} 0 1 = cc in omega arith
 
 pub impossible_exactly : ImpossibleExactly
 impossible_exactly p s = (go (is_partial p) refl, λ e. sym (take_impossible p s e))
@@ -227,9 +230,8 @@ impossible_exactly p s = (go (is_partial p) refl, λ e. sym (take_impossible p s
     go false d e = d
     go true d e = absurd (taken_possible p.have (held_bytes p ++ s) (read_varint (held_bytes p ++ s)) (unfold take_varint in rw d at e))
 
-pub take-empty : (p : Partial) (s : List ℕ) → p.have ≡ 0 → p.raw ≡ 0 → take_varint (partial_of []) s ≡ take_varint p s
-take-empty p s h r = ap (λ (q : Partial). take_varint q s) (empty-is ∙ (λ i. record { have = sym h i; raw = sym r i }))
-
-pub first_impossible : (p : Partial) → p.have ≡ 0 → (p.raw ≡ 0 → ⊥) → is_partial p ≡ false
+pub take_empty : (p : Partial) (s : List ℕ) → p.have ≡ 0 → is_partial p ≡ true → take_varint (partial_of []) s ≡ take_varint p s
 unfolding is_partial
-first_impossible p h r = sym (starts_first p.have p.raw h) ∙ ne_eqb p.raw 0 r
+take_empty p s h e =
+    let r : p.raw ≡ 0 = starts_zero p.raw (rw h at e) in
+    ap (λ (q : Partial). take_varint q s) (empty-is ∙ (λ i. record { have = sym h i; raw = sym r i }))

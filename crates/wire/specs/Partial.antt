@@ -1,7 +1,6 @@
 -- A varint of which a part has come.
-use Rattle.std.specs.Prelude.{ℕ, zero, suc, ◌-◌, ◌/◌, ◌^◌, Bool, cond, ◌&&◌, List, ◌++◌, length, ltb, eqb}
-use Rattle.wire.specs.declared.varint.Varint.{Varint}
-use Rattle.wire.specs.declared.varint.Varint.TheVariants.{Incomplete, Whole}
+use Rattle.short_forms.specs.declared.Varint.{Varint}
+use Rattle.std.specs.Prelude.{ℕ, zero, suc, ◌-◌, ◌/◌, ◌^◌, Bool, cond, ◌&&◌, List, ◌++◌, length, ltb, eqb, Option, Some, None}
 use Rattle.wire.specs.declared.partial.Partial.{Partial}
 use Rattle.wire.specs.declared.partial.VarintTaken.{VarintTaken}
 use Rattle.wire.specs.declared.partial.VarintTaken.TheVariants.{Impossible, More, Ends}
@@ -28,9 +27,9 @@ unfoldable pub is_partial : Partial → Bool
 is_partial p = starts p.have p.raw
 
 -- what reading at the part's bytes and those after them says of the bytes after them
-unfoldable pub taken_of : ℕ → List ℕ → Varint → VarintTaken
-taken_of have joined Incomplete = More (partial_of joined)
-taken_of have joined (Whole value size) = Ends (size - have) value
+unfoldable pub taken_of : ℕ → List ℕ → Option Varint → VarintTaken
+taken_of have joined None = More (partial_of joined)
+taken_of have joined (Some read) = Ends (read.size - have) read.value
 
 -- a part that goes on by s
 unfoldable pub take_varint : Partial → List ℕ → VarintTaken

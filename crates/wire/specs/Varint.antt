@@ -1,7 +1,7 @@
 -- Variable-length integers (RFC 9000, section 16).
-use Rattle.std.specs.Prelude.{ℕ, ◌+◌, ◌-◌, ◌*◌, ◌/◌, ◌%◌, ◌^◌, cond, List, [], ◌∷◌, length, take, leb}
-use Rattle.wire.specs.declared.varint.Varint.{Varint}
-use Rattle.wire.specs.declared.varint.Varint.TheVariants.{Incomplete, Whole}
+use Rattle.short_forms.specs.declared.Varint.{Varint}
+use Rattle.short_forms.specs.Short.{varint_of}
+use Rattle.std.specs.Prelude.{ℕ, ◌+◌, ◌-◌, ◌*◌, ◌/◌, ◌%◌, ◌^◌, cond, List, [], ◌∷◌, length, take, leb, Option, Some, None}
 use Rattle.wire.specs.Bytes.{num, bytes_of}
 
 unfoldable pub largest : ℕ
@@ -18,11 +18,11 @@ unfoldable pub value_of : ℕ → ℕ → ℕ
 value_of k n = n % 2 ^ (8 * k - 2)
 
 -- the varint at the front of a list
-unfoldable pub read_varint : List ℕ → Varint
-read_varint [] = Incomplete
+unfoldable pub read_varint : List ℕ → Option Varint
+read_varint [] = None
 read_varint (b ∷ s) =
     let k = size_of b in
-    cond (leb k (length (b ∷ s))) (Whole (value_of k (num (take k (b ∷ s)))) k) Incomplete
+    cond (leb k (length (b ∷ s))) (Some (varint_of (value_of k (num (take k (b ∷ s)))) k)) None
 
 -- ---- writing
 

@@ -1,19 +1,19 @@
 // A varint of which a part has come: how many bytes, and their big-endian number.
-ghost use Rattle.std.specs.Prelude.{◌≡◌, ◌+◌, ◌≤◌, ◌<◌, ◌^◌, length, take, true, []};
+ghost use Rattle.std.specs.Prelude.{◌≡◌, ◌+◌, ◌-◌, ◌*◌, ◌/◌, ◌≤◌, ◌<◌, ◌^◌, length, true, []};
 ghost use Rattle.wire.specs.Bytes.{num_from};
-ghost use Rattle.wire.specs.Partial.{partial, partial_of, starts, is_partial, take_varint};
-ghost use Rattle.wire.specs.Varint.{value_of};
+ghost use Rattle.wire.specs.Partial.{partial, partial_of, is_partial, take_varint};
+ghost use Rattle.wire.specs.Varint.{size_of, value_of};
 
-use crate::varint::{Varint, read_varint, size_of, wide};
+use crate::varint::{read_varint, size_of};
 
-#[derive(Clone, Copy)]
+#[derive(Clone, Copy, Debug, PartialEq, Eq)]
 pub struct Partial {
     pub have: u8,
     pub raw: u64,
 }
 
-// What comes of a partial varint by more bytes.
-#[derive(Clone, Copy)]
+// What comes of a partial varint by more bytes: three outcomes, which every caller tells apart.
+#[derive(Clone, Copy, Debug, PartialEq, Eq)]
 pub enum VarintTaken {
     // no varint has this part
     Impossible,
@@ -28,102 +28,91 @@ impl Partial {
     pub const EMPTY: Partial = Partial { have: 0, raw: 0 };
 
     // Whether a varint that is not whole has this part.
+    #[tactic(auto, using(crate::proofs::Parts::starts_first, crate::proofs::Parts::starts_large, crate::proofs::Parts::starts_high, crate::proofs::Parts::first_fits, crate::proofs::Parts::starts_last), unfolding(crate::specs::Partial::is_partial))]
     pub fn is_possible(self) -> bool
         ensures { result ≡ is_partial self }
     {
-        let have = self.have;
-        let raw = self.raw;
-        if have == 0 {
-            return raw == 0;
+        match self.have {
+            0 => self.raw == 0,
+            1..=7 => self.raw >> (8 * self.have) == 0 && usize::from(self.have) < self.size(),
+            _ => false,
         }
-        if have > 7 {
-            return false;
-        }
-        if (raw >> (8 * have)) != 0 {
-            return false;
-        }
-        (have as usize) < size_of((raw >> (8 * (have - 1))) as u8)
     }
 
     // What comes of it by the bytes of s.
+    #[tactic(auto, using(crate::proofs::Parts::take_impossible, crate::proofs::Parts::take_empty))]
     pub fn take(self, s: &[u8]) -> VarintTaken
         ensures { result ≡ take_varint self s.now }
     {
-        let have = self.have;
-        let raw = self.raw;
-        if have == 0 {
-            if raw != 0 {
-                return VarintTaken::Impossible;
-            }
-            return start(s);
-        }
         if !self.is_possible() {
-            return VarintTaken::Impossible;
+            VarintTaken::Impossible
+        } else if self.have == 0 {
+            start(s)
+        } else {
+            self.go_on(s)
         }
-        go_on(have, raw, s)
+    }
+
+    // From a later byte on: the first one says how many there are.
+    fn go_on(self, s: &[u8]) -> VarintTaken
+        requires { (0 < self.have) × (is_partial self ≡ true) }
+        ensures { result ≡ take_varint self s.now }
+    {
+        let size = self.size();
+        let missing = size - usize::from(self.have);
+        if s.len() < missing {
+            return VarintTaken::More(self.with_bytes(s));
+        }
+        let whole = self.with_bytes(&s[..missing]);
+        VarintTaken::Ends {
+            used: missing,
+            value: value_of(size, whole.raw),
+        }
+    }
+
+    // How many bytes its varint has, by the first byte.
+    fn size(self) -> usize
+        requires { (0 < self.have) × (self.have ≤ 8) × (self.raw / 2 ^ (8 * (self.have - 1)) < 256) }
+        ensures { result ≡ size_of (self.raw / 2 ^ (8 * (self.have - 1))) }
+    {
+        size_of((self.raw >> (8 * (self.have - 1))) as u8)
+    }
+
+    // With the bytes of s after its own.
+    fn with_bytes(self, s: &[u8]) -> Partial
+        requires { (self.have + length s.now ≤ 8) × (self.raw < 256 ^ self.have) }
+        ensures { result ≡ partial (self.have + length s.now) (num_from self.raw s.now) }
+    {
+        let mut raw = self.raw;
+        for &b in s {
+            raw = raw * 256 + u64::from(b);
+        }
+        Partial {
+            have: self.have + s.len() as u8,
+            raw,
+        }
     }
 }
 
 // From the first byte on.
+#[tactic(auto, using(crate::proofs::Parts::begins_whole, crate::proofs::Parts::begins_part, crate::proofs::Reading::incomplete_room))]
 fn start(s: &[u8]) -> VarintTaken
     ensures { result ≡ take_varint (partial_of []) s.now }
 {
-    let read = read_varint(s);
-    match read {
-        Varint::Whole { value, size } => VarintTaken::Ends {
-            used: size,
-            value: value,
+    match read_varint(s) {
+        Some(read) => VarintTaken::Ends {
+            used: read.size,
+            value: read.value,
         },
-        Varint::Incomplete => {
-            let n = number_on(s, 0, 0, s.len());
-            VarintTaken::More(Partial {
-                have: s.len() as u8,
-                raw: n,
-            })
-        }
+        None => VarintTaken::More(Partial::EMPTY.with_bytes(s)),
     }
-}
-
-// From a later byte on: the first one says how many there are.
-fn go_on(have: u8, raw: u64, s: &[u8]) -> VarintTaken
-    requires { (0 < have) × (starts have raw ≡ true) }
-    ensures { result ≡ take_varint (partial have raw) s.now }
-{
-    let size = size_of((raw >> (8 * (have - 1))) as u8);
-    let missing = size - (have as usize);
-    if s.len() < missing {
-        let n = number_on(s, have, raw, s.len());
-        return VarintTaken::More(Partial {
-            have: have + (s.len() as u8),
-            raw: n,
-        });
-    }
-    let n = number_on(s, have, raw, missing);
-    VarintTaken::Ends {
-        used: missing,
-        value: value_of(size, n),
-    }
-}
-
-// The number that goes on from raw by the first count bytes of s.
-fn number_on(s: &[u8], have: u8, raw: u64, count: usize) -> u64
-    requires { (have + count ≤ 8) × (raw < 256 ^ have) × (count ≤ length s.now) }
-    ensures { result ≡ num_from raw (take count s.now) }
-{
-    let mut n = raw;
-    let mut i: usize = 0;
-    while i < count {
-        n = n * 256 + wide(s[i]);
-        i += 1;
-    }
-    n
 }
 
 // The value of a varint of size bytes that are the number n.
+#[tactic(auto, using(crate::proofs::Reading::value_of_shift, crate::proofs::Reading::shifted_pos))]
 fn value_of(size: usize, n: u64) -> u64
     requires { (1 ≤ size) × (size ≤ 8) }
     ensures { result ≡ value_of size n }
 {
-    let bits = 8 * size - 2;
-    n % (1u64 << bits)
+    n % (1u64 << (8 * size - 2))
 }

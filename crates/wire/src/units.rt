@@ -1,59 +1,46 @@
-// Stream IDs and quarter stream IDs (RFC 9297, section 2.1). Either holds any number: whether it is one is asked where it is converted.
+// Stream IDs and quarter stream IDs (RFC 9297, section 2.1). Either holds any number: whether it is one is asked where
+// it is converted.
 ghost use Rattle.std.specs.Prelude.{◌≡◌};
 ghost use Rattle.wire.specs.Units.{quarter_of, stream_of};
 
 use crate::varint::Varint;
 
-#[derive(Clone, Copy)]
+// Tuple structs are a form that the project's scope names (docs/PROMISES.md).
+#[derive(Clone, Copy, Debug, PartialEq, Eq)]
 pub struct StreamId(pub u64);
 
 #[repr(C)]
-#[derive(Clone, Copy)]
+#[derive(Clone, Copy, Debug, PartialEq, Eq)]
 pub struct Quarter(pub u64);
-
-#[derive(Clone, Copy)]
-pub enum QuarterOf {
-    NotRequestStream,
-    Is(Quarter),
-}
-
-#[derive(Clone, Copy)]
-pub enum StreamOf {
-    TooLarge,
-    Is(StreamId),
-}
 
 impl StreamId {
     pub const MAX: StreamId = StreamId(Varint::MAX);
 
     // The quarter of a request stream's ID.
-    pub fn quarter(self) -> QuarterOf
+    #[tactic(auto, unfolding(crate::specs::Units::quarter_of, crate::specs::Units::is_request))]
+    pub fn quarter(self) -> Option<Quarter>
         ensures { result ≡ quarter_of self }
     {
-        let id = self.0;
-        let max = StreamId::MAX;
-        if id > max.0 {
-            return QuarterOf::NotRequestStream;
+        if self.0 <= StreamId::MAX.0 && self.0 % 4 == 0 {
+            Some(Quarter(self.0 / 4))
+        } else {
+            None
         }
-        if id % 4 != 0 {
-            return QuarterOf::NotRequestStream;
-        }
-        QuarterOf::Is(Quarter(id / 4))
     }
 }
 
 impl Quarter {
-    pub const MAX: Quarter = Quarter(1152921504606846975);
+    pub const MAX: Quarter = Quarter(Varint::MAX / 4);
 
     // The ID of the request stream whose quarter this is.
-    pub fn stream(self) -> StreamOf
+    #[tactic(auto, unfolding(crate::specs::Units::stream_of, crate::specs::Units::largest_quarter))]
+    pub fn stream(self) -> Option<StreamId>
         ensures { result ≡ stream_of self }
     {
-        let quarter = self.0;
-        let max = Quarter::MAX;
-        if quarter > max.0 {
-            return StreamOf::TooLarge;
+        if self.0 <= Quarter::MAX.0 {
+            Some(StreamId(self.0 * 4))
+        } else {
+            None
         }
-        StreamOf::Is(StreamId(quarter * 4))
     }
 }

@@ -1,16 +1,11 @@
--- By the version, of which the width computes.
-use Rattle.walks.proofs.Words.{arith, refl, ne_eqb}
+-- The law `put_part` of Putting.
+use Rattle.walks.proofs.Words.{arith, ◌≡◌}
 use Rattle.address_rows.proofs.Terms.{width_of}
+use Rattle.address_rows.proofs.Putting.{put_part, address-length}
 use Rattle.address_rows.proofs.put_address.Goals as goal
 
-pub returns-then-version-eq4 : goal.returns-then-version-eq4
-unfolding width_of
-returns-then-version-eq4 c = rw c.if-version-eq4.true c.put4.ensures
-
-pub returns-then-version-eq6 : goal.returns-then-version-eq6
-unfolding width_of
-returns-then-version-eq6 c = rw c.if-version-eq6.true c.put16.ensures
-
 pub returns : goal.returns
-unfolding width_of
-returns c = rw (ne_eqb _ 4 c.if-version-eq4.false, ne_eqb _ 6 c.if-version-eq6.false) (record { stored = refl; next = omega arith })
+returns c =
+    let e : c.width_of-width.result ≡ width_of c.args.version = c.width_of-width.ensures.0 in
+    let l = address-length c.args.address.now c.args.version c.requires.0 in
+    rw (e, c.copy_from_slice.ensures.after, e) (put_part _ c.args.out.now c.args.at (width_of c.args.version) l (omega arith))

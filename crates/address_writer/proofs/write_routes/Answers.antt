@@ -1,10 +1,12 @@
--- The law `routes` of Writing; what `write_records` asks is of entries alone.
-use Rattle.walks.proofs.Words.{arith, ◌≡◌, ◌∙◌, ℕ}
-use Rattle.address_writer.proofs.Writing.{routes}
+-- The law `routes` of Writing.
+use Rattle.walks.proofs.Words.{arith, ◌∙◌, true, true≢false}
+use Rattle.address_writer.proofs.Terms.{gathers, is_whole}
+use Rattle.address_writer.proofs.Writing.{routes, gathered}
 use Rattle.address_writer.proofs.write_routes.Goals as goal
 
-pub write_records-requires : goal.write_records-requires
-write_records-requires c = λ f. let z : ◌≡◌ {A = ℕ} 0 1 = cc in absurd (let n : ⊥ = omega arith in n)
-
 pub returns : goal.returns
-returns c = let a = c.args in c.write_records.ensures ∙ routes a.ranges.now a.out.now a.place
+unfolding is_whole
+returns c =
+    let a = c.args in
+    let p = c.put_ranges-size in
+    c.write_value.ensures ∙ gathered (gathers true a.ranges.now _ (λ f. absurd (true≢false f)) (omega arith) p.ensures.bytes) (omega arith) p.ensures.within _ 3 a.out.now a.place ∙ routes a.ranges.now a.out.now a.place

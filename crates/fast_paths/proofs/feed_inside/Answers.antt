@@ -1,7 +1,7 @@
 -- Laws `inside-..` of FastPaths, one for each way out; what is moved fits (`fits`).
 use Rattle.walks.proofs.Words.{arith, refl, sym, ◌∙◌}
 use Rattle.fast_paths.proofs.Terms.{extent_most, makeable_value}
-use Rattle.fast_paths.proofs.FastPaths.{large_limit, made_by, value_verdict, fits, left_most, inside_address, inside_refused, inside_unmade, inside_ended, inside_taken}
+use Rattle.fast_paths.proofs.FastPaths.{large_limit, made_by, value_verdict, value_accepted, fits, left_most, inside_address, inside_unfit, inside_unmade, inside_ended, inside_taken}
 use Rattle.fast_paths.proofs.feed_inside.Goals as goal
 
 pub returns-then-op-gt-MAX_LIMIT : goal.returns-then-op-gt-MAX_LIMIT
@@ -18,19 +18,21 @@ overflow_sub-place c = omega (arith, makeable_value _ _ _ _ (sym c.is_makeable_v
 
 pub move_bytes-last-requires : goal.move_bytes-last-requires
 move_bytes-last-requires c =
-    let v = sym (value_verdict _ _ _ _ _ c.if-op-gt-MAX_LIMIT.false _ (sym c.in-Accepted.is ∙ c.lent_verdict-verdict.ensures) _ _ _ (sym c.is_makeable_value.ensures ∙ c.if-not-is_makeable_value.false)) in
+    let v = value_accepted _ _ _ _ _ c.if-op-gt-MAX_LIMIT.false _ c.lent_verdict.ensures _ _ _ (sym c.is_makeable_value.ensures ∙ c.if-not-is_makeable_value.false) (sym c.ok.ensures.value ∙ c.in_ok-ok.was) in
     fits _ _ _ _ _ v _ _ _ _ _ (omega arith) (omega arith) (omega (arith, left_most _ _ _ _ _ v _ _ _ refl))
 
 pub returns-then-left-n : goal.returns-then-left-n
-returns-then-left-n c = inside_ended _ _ _ _ _ _ (sym c.is_plain.ensures ∙ c.if-not-is_plain.false) (sym (value_verdict _ _ _ _ _ c.if-op-gt-MAX_LIMIT.false _ (sym c.in-Accepted.is ∙ c.lent_verdict-verdict.ensures) _ _ _ (sym c.is_makeable_value.ensures ∙ c.if-not-is_makeable_value.false))) _ _ _ (omega arith) _ c.report.ensures c.move_bytes-last.ensures.gathering_after c.move_bytes-last.ensures.wrote
+returns-then-left-n c = inside_ended _ _ _ _ _ _ (sym c.is_plain.ensures ∙ c.if-not-is_plain.false) (value_accepted _ _ _ _ _ c.if-op-gt-MAX_LIMIT.false _ c.lent_verdict.ensures _ _ _ (sym c.is_makeable_value.ensures ∙ c.if-not-is_makeable_value.false) (sym c.ok.ensures.value ∙ c.in_ok-ok.was)) _ _ _ (omega arith) _ c.report.ensures c.move_bytes-last.ensures.gathering_after c.move_bytes-last.ensures.wrote
 
 pub move_bytes-written-requires : goal.move_bytes-written-requires
 move_bytes-written-requires c =
-    let v = sym (value_verdict _ _ _ _ _ c.if-op-gt-MAX_LIMIT.false _ (sym c.in-Accepted.is ∙ c.lent_verdict-verdict.ensures) _ _ _ (sym c.is_makeable_value.ensures ∙ c.if-not-is_makeable_value.false)) in
+    let v = value_accepted _ _ _ _ _ c.if-op-gt-MAX_LIMIT.false _ c.lent_verdict.ensures _ _ _ (sym c.is_makeable_value.ensures ∙ c.if-not-is_makeable_value.false) (sym c.ok.ensures.value ∙ c.in_ok-ok.was) in
     fits _ _ _ _ _ v _ _ _ _ _ (omega arith) (omega arith) (omega (arith, left_most _ _ _ _ _ v _ _ _ refl))
 
-pub returns-in-Refused : goal.returns-in-Refused
-returns-in-Refused c = inside_refused _ _ _ _ _ _ _ (value_verdict _ _ _ _ _ c.if-op-gt-MAX_LIMIT.false _ (sym c.in-Refused.is ∙ c.lent_verdict-verdict.ensures) _ _ _ (sym c.is_makeable_value.ensures ∙ c.if-not-is_makeable_value.false))
+pub returns-in_err-ok : goal.returns-in_err-ok
+returns-in_err-ok c =
+    let unfit = inside_unfit _ _ _ _ _ _ _ (value_verdict _ _ _ _ _ c.if-op-gt-MAX_LIMIT.false _ c.lent_verdict.ensures _ _ _ (sym c.is_makeable_value.ensures ∙ c.if-not-is_makeable_value.false)) (sym c.ok.ensures.value ∙ c.in_err-ok.was) in
+    rw c.from_residual.ensures unfit
 
-pub returns-else-left-n : goal.returns-else-left-n
-returns-else-left-n c = inside_taken _ _ _ _ _ _ (sym c.is_plain.ensures ∙ c.if-not-is_plain.false) (sym (value_verdict _ _ _ _ _ c.if-op-gt-MAX_LIMIT.false _ (sym c.in-Accepted.is ∙ c.lent_verdict-verdict.ensures) _ _ _ (sym c.is_makeable_value.ensures ∙ c.if-not-is_makeable_value.false))) _ _ _ (omega arith) c.move_bytes-written.ensures.gathering_after c.move_bytes-written.ensures.wrote
+pub returns : goal.returns
+returns c = inside_taken _ _ _ _ _ _ (sym c.is_plain.ensures ∙ c.if-not-is_plain.false) (value_accepted _ _ _ _ _ c.if-op-gt-MAX_LIMIT.false _ c.lent_verdict.ensures _ _ _ (sym c.is_makeable_value.ensures ∙ c.if-not-is_makeable_value.false) (sym c.ok.ensures.value ∙ c.in_ok-ok.was)) _ _ _ (omega arith) c.move_bytes-written.ensures.gathering_after c.move_bytes-written.ensures.wrote

@@ -1,6 +1,8 @@
 -- By what `read_varint` answers at each field: the laws of Rounds.
+use Rattle.std.specs.Prelude.{Some}
+use Rattle.short_forms.specs.Short.{varint_of}
 use Rattle.walks.proofs.Words.{◌≡◌, refl, sym, ap, ◌∙◌, arith, drop}
-use Rattle.one_shot_listing.proofs.Terms.{Whole, read_varint, rest_of}
+use Rattle.one_shot_listing.proofs.Terms.{read_varint, rest_of}
 use Rattle.one_shot_listing.proofs.Rounds.{field_within, type_within, head_within, at-end, in_type_lem, in_length_lem, in_value_lem, at_next}
 use Rattle.one_shot_listing.proofs.+listing.Goals as goal
 
@@ -14,21 +16,21 @@ read_type-overflow_add-start t c =
     omega (
       arith,
       field_within c.args.s.now c.args.start _ _ c.requires.within
-          (sym (c.read_varint.ensures ∙ ap read_varint (rest_of c.args.s.now c.args.start)) ∙ c.in-Whole.is),
+          (sym (c.read_varint.ensures ∙ ap read_varint (rest_of c.args.s.now c.args.start)) ∙ c.in-Some.is),
     )
 
 pub read_type-read_length-requires : goal.read_type-read_length-requires
 read_type-read_length-requires t c =
-    let whole : read_varint (drop c.args.start c.args.s.now) ≡ Whole c.in-Whole.value c.in-Whole.size =
-    sym (c.read_varint.ensures ∙ ap read_varint (rest_of c.args.s.now c.args.start)) ∙ c.in-Whole.is in (
+    let whole : read_varint (drop c.args.start c.args.s.now) ≡ Some (varint_of c.in-Some.ctype.value c.in-Some.ctype.size) =
+    sym (c.read_varint.ensures ∙ ap read_varint (rest_of c.args.s.now c.args.start)) ∙ c.in-Some.is in (
       omega (arith, field_within c.args.s.now c.args.start _ _ c.requires.within whole),
-      (c.requires, record { ctype = c.in-Whole.value; size = c.in-Whole.size; reads = whole; ends = refl }),
+      (c.requires, record { ctype = c.in-Some.ctype.value; size = c.in-Some.ctype.size; reads = whole; ends = refl }),
     )
 
 pub read_type-returns-else-start-s : goal.read_type-returns-else-start-s
 read_type-returns-else-start-s t c =
     in_type_lem c.args.s.now c.args.start c.requires.within c.args.capsules c.args.headers (omega arith)
-    (sym (c.read_varint.ensures ∙ ap read_varint (rest_of c.args.s.now c.args.start)) ∙ c.in-Incomplete.is)
+    (sym (c.read_varint.ensures ∙ ap read_varint (rest_of c.args.s.now c.args.start)) ∙ c.in-None.is)
 
 -- ---- a length
 
@@ -43,21 +45,21 @@ read_length-overflow_add-at t c =
     omega (
       arith,
       field_within c.args.s.now c.args.at _ _ (type_within c.args.s.now c.args.start c.requires.0.within c.args.at c.requires.1).1
-          (sym (c.read_varint.ensures ∙ ap read_varint (rest_of c.args.s.now c.args.at)) ∙ c.in-Whole.is),
+          (sym (c.read_varint.ensures ∙ ap read_varint (rest_of c.args.s.now c.args.at)) ∙ c.in-Some.is),
     )
 
 pub read_length-read_value-requires : goal.read_length-read_value-requires
 read_length-read_value-requires t c =
-    let whole : read_varint (drop c.args.at c.args.s.now) ≡ Whole c.in-Whole.value c.in-Whole.size =
-    sym (c.read_varint.ensures ∙ ap read_varint (rest_of c.args.s.now c.args.at)) ∙ c.in-Whole.is in (
+    let whole : read_varint (drop c.args.at c.args.s.now) ≡ Some (varint_of c.in-Some.length.value c.in-Some.length.size) =
+    sym (c.read_varint.ensures ∙ ap read_varint (rest_of c.args.s.now c.args.at)) ∙ c.in-Some.is in (
       omega (arith, field_within c.args.s.now c.args.at _ _ (type_within c.args.s.now c.args.start c.requires.0.within c.args.at c.requires.1).1 whole),
-      (c.requires.0, record { middle = c.args.at; type_read = c.requires.1; size = c.in-Whole.size; reads = whole; ends = refl }),
+      (c.requires.0, record { middle = c.args.at; type_read = c.requires.1; size = c.in-Some.length.size; reads = whole; ends = refl }),
     )
 
-pub read_length-returns-in-Incomplete : goal.read_length-returns-in-Incomplete
-read_length-returns-in-Incomplete t c =
+pub read_length-returns-in-None : goal.read_length-returns-in-None
+read_length-returns-in-None t c =
     in_length_lem c.args.s.now c.args.start c.requires.0.within c.args.capsules c.args.headers c.args.at c.requires.1
-    (sym (c.read_varint.ensures ∙ ap read_varint (rest_of c.args.s.now c.args.at)) ∙ c.in-Incomplete.is)
+    (sym (c.read_varint.ensures ∙ ap read_varint (rest_of c.args.s.now c.args.at)) ∙ c.in-None.is)
 
 -- ---- a value
 

@@ -9,10 +9,10 @@ length-read : (c : After-read_short) → c.read_short.result ≡ read_short (dro
 length-read c = c.read_short.ensures ∙ ap read_short (rest_of c.args.piece.now 1)
 
 pub overflow_add-result : goal.overflow_add-result
-overflow_add-result c = omega (arith, ((short_exactly _ _ _).0 (sym (length-read (goal.at.overflow_add-result c).After-read_short) ∙ c.in-Found.is)).1)
+overflow_add-result c = omega (arith, ((short_exactly _ _ _).0 (sym (length-read (goal.at.overflow_add-result c).After-read_short) ∙ c.in_ok-size.was)).1)
 
-pub returns-in-None : goal.returns-in-None
-returns-in-None c = header-long _ c.if-piece-lt3.false _ c.wide-ctype.ensures (omega arith) (sym (length-read (goal.at.returns-in-None c).After-read_short) ∙ c.in-None.is)
+pub returns-in_err-size : goal.returns-in_err-size
+returns-in_err-size c = c.from_residual.ensures ∙ header-long _ c.if-piece-lt3.false _ c.from-ctype.ensures (omega arith) (sym (length-read (goal.at.returns-in_err-size c).After-read_short) ∙ c.in_err-size.was)
 
-pub returns-in-Found : goal.returns-in-Found
-returns-in-Found c = header-short _ c.if-piece-lt3.false _ c.wide-ctype.ensures (omega arith) (c.type_inv.piece 2).fits _ _ (sym (length-read (goal.at.returns-in-Found c).After-read_short) ∙ c.in-Found.is)
+pub returns : goal.returns
+returns c = header-short _ c.if-piece-lt3.false _ c.from-ctype.ensures (omega arith) (c.type_inv.piece 2).fits _ _ (sym (length-read (goal.at.returns c).After-read_short) ∙ c.in_ok-size.was)

@@ -1,9 +1,6 @@
--- What is read lies in the piece, and the measure falls by what was consumed.
-use Rattle.std.proofs.Common.{◌≤◌, ◌-◌, length}
+-- The bytes that are left fall.
+use Rattle.std.proofs.Common.{length}
 use Rattle.run_in_place.proofs.read.Given as goal
 
-abbrev pub invariant-loop-at : goal.invariant-loop-at
-invariant-loop-at g l = l.at ≤ length l.piece
-
-abbrev pub decreases-loop-at : goal.decreases-loop-at
-decreases-loop-at g l = length l.piece - l.at
+abbrev pub decreases-loop-rest : goal.decreases-loop-rest
+decreases-loop-rest g l = length l.rest

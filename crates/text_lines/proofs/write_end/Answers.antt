@@ -5,12 +5,12 @@ use Rattle.text_lines.proofs.write_end.Goals as goal
 
 pub returns-in-Clean : goal.returns-in-Clean
 unfolding end_line text
-returns-in-Clean c = rw (c.in-Clean.is, end_line) (record { out_after = c.write_text.ensures; end_len_bound = omega arith })
+returns-in-Clean c = rw (c.in-Ok.is, c.in-Clean.is, end_line) (record { out_after = c.write_text.ensures; end_len_bound = omega arith })
 
 pub returns-in-Truncated : goal.returns-in-Truncated
 unfolding end_line text
-returns-in-Truncated c = rw (c.in-Truncated.is, end_line) (record { out_after = c.write_text-in-Truncated.ensures; end_len_bound = omega arith })
+returns-in-Truncated c = rw (c.in-Ok.is, c.in-Truncated.is, end_line) (record { out_after = c.write_text-in-Truncated.ensures; end_len_bound = omega arith })
 
-pub returns-in-Refused : goal.returns-in-Refused
+pub returns-in-Err : goal.returns-in-Err
 unfolding end_line text
-returns-in-Refused c = rw (c.in-Refused.is, end_line) (record { out_after = c.write_one.ensures.out_after; end_len_bound = omega (arith, c.write_one.ensures.n_in_bounds) })
+returns-in-Err c = rw (c.in-Err.is, end_line) (record { out_after = c.write_one.ensures.out_after; end_len_bound = omega (arith, c.write_one.ensures.n_in_bounds) })

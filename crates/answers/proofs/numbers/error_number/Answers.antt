@@ -2,10 +2,10 @@ use Rattle.walks.proofs.Words.{rules}
 use Rattle.answers.proofs.Terms.{error_number}
 use Rattle.answers.proofs.numbers.error_number.Goals as goal
 
-pub returns-in-NoError : goal.returns-in-NoError
+pub returns-in-None : goal.returns-in-None
 unfolding error_number
-returns-in-NoError c = search rules
+returns-in-None c = search rules
 
-pub returns-in-Is : goal.returns-in-Is
+pub returns-in-Some : goal.returns-in-Some
 unfolding error_number
-returns-in-Is c = search rules
+returns-in-Some c = search rules

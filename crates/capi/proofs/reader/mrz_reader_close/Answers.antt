@@ -3,17 +3,13 @@ use Rattle.walks.proofs.Words.{refl, sym, ◌∙◌}
 use Rattle.capi.proofs.Terms.{words_closed, close-nothing, close_by}
 use Rattle.capi.proofs.reader.mrz_reader_close.Goals as goal
 
-pub returns-in-Nothing : goal.returns-in-Nothing
-returns-in-Nothing c = close-nothing _ _ (sym c.load.ensures ∙ c.in-Nothing.is) c.closed_answer.ensures
+pub returns-in_default : goal.returns-in_default
+returns-in_default c = close-nothing _ _ (sym c.load.ensures ∙ c.in_default.is) c.closed_answer.ensures
 
-pub returns-in-Refused : goal.returns-in-Refused
+pub returns-in-Err : goal.returns-in-Err
 unfolding words_closed
-returns-in-Refused c = close_by _ _ _ _ (sym c.load.ensures ∙ c.in-Is.is) c.close-done.ensures c.closed_answer-in-Refused.ensures _ c.in-Refused.is _ refl
+returns-in-Err c = close_by _ _ _ _ (sym c.load.ensures ∙ c.in-Some.is) c.close-closed.ensures c.closed_answer-in-Err.ensures _ c.in-Err.is _ refl
 
-pub returns-in-Clean : goal.returns-in-Clean
+pub returns-in-Ok : goal.returns-in-Ok
 unfolding words_closed
-returns-in-Clean c = close_by _ _ _ _ (sym c.load.ensures ∙ c.in-Is.is) c.close-done.ensures c.closed_answer-in-Clean.ensures _ c.in-Clean.is _ c.store.ensures
-
-pub returns-in-Truncated : goal.returns-in-Truncated
-unfolding words_closed
-returns-in-Truncated c = close_by _ _ _ _ (sym c.load.ensures ∙ c.in-Is.is) c.close-done.ensures c.closed_answer-in-Truncated.ensures _ c.in-Truncated.is _ c.store-in-Truncated.ensures
+returns-in-Ok c = close_by _ _ _ _ (sym c.load.ensures ∙ c.in-Some.is) c.close-closed.ensures c.closed_answer-in-Ok.ensures _ c.in-Ok.is _ c.store.ensures

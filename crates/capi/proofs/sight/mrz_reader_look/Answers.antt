@@ -3,10 +3,10 @@ use Rattle.walks.proofs.Words.{sym, ap, ◌∙◌}
 use Rattle.capi.proofs.Terms.{looked_answer, look_words}
 use Rattle.capi.proofs.sight.mrz_reader_look.Goals as goal
 
-pub returns-in-Nothing : goal.returns-in-Nothing
+pub returns-in-None : goal.returns-in-None
 unfolding look_words
-returns-in-Nothing c = rw (sym c.load.ensures ∙ c.in-Nothing.is, look_words) c.looked_answer.ensures
+returns-in-None c = rw (sym c.load.ensures ∙ c.in-None.is, look_words) c.looked_answer.ensures
 
-pub returns-in-Is : goal.returns-in-Is
+pub returns-in-Some : goal.returns-in-Some
 unfolding look_words
-returns-in-Is c = rw (sym c.load.ensures ∙ c.in-Is.is, look_words) (c.looked_answer-in-Is.ensures ∙ ap looked_answer c.look.ensures)
+returns-in-Some c = rw (sym c.load.ensures ∙ c.in-Some.is, look_words) (c.looked_answer-in-Some.ensures ∙ ap looked_answer c.look.ensures)

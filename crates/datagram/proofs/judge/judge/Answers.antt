@@ -1,6 +1,9 @@
 -- By what is looked up of the frame's quarter, and the laws `judged_by_lookup` and `judged_so_lem`. Assumes nothing.
+use Rattle.std.specs.Prelude.{Option, Result}
+use Rattle.refusals.specs.declared.Refusal.{Refusal}
+use Rattle.stream_records.specs.declared.answers.Entry.{Entry}
 use Rattle.walks.proofs.Words.{ap, ◌∙◌}
-use Rattle.datagram.proofs.Terms.{Lookup, Quarter, lookup_of, judged_by, judged_by_lookup, judged_so_lem}
+use Rattle.datagram.proofs.Terms.{Quarter, lookup_of, judged_by, judged_by_lookup, judged_so_lem}
 use Rattle.datagram.proofs.judge.judge.Goals as goal
 
 pub returns : goal.returns
@@ -8,4 +11,4 @@ returns c =
     let a = c.args in
     let found = c.look_up.ensures ∙ ap (λ (q : Quarter). lookup_of q.0 a.rows.now) c.asked.ensures in
     judged_so_lem a.rows.now a.streams a.limit a.frame.now _
-    (c.judge_by.ensures ∙ ap (λ (l : Lookup). judged_by l a.streams a.limit a.frame.now) found ∙ (judged_by_lookup a.rows.now a.streams a.limit a.frame.now).0)
+    (c.judge_by.ensures ∙ ap (λ (l : Result (Option Entry) Refusal). judged_by l a.streams a.limit a.frame.now) found ∙ (judged_by_lookup a.rows.now a.streams a.limit a.frame.now).0)

@@ -1,6 +1,9 @@
 -- By what is looked up of the stream's quarter, and the law `sent_by_lookup`. Assumes nothing.
+use Rattle.std.specs.Prelude.{Option, Result}
+use Rattle.refusals.specs.declared.Refusal.{Refusal}
+use Rattle.stream_records.specs.declared.answers.Entry.{Entry}
 use Rattle.walks.proofs.Words.{ap, ◌∙◌}
-use Rattle.datagram.proofs.Terms.{Lookup, Quarter, lookup_of, frame_by, sent_by_lookup}
+use Rattle.datagram.proofs.Terms.{Quarter, lookup_of, frame_by, sent_by_lookup}
 use Rattle.datagram.proofs.write.write_frame.Goals as goal
 
 pub returns : goal.returns
@@ -8,5 +11,5 @@ returns c =
     let a = c.args in
     let found = c.look_up.ensures ∙ ap (λ (q : Quarter). lookup_of q.0 a.rows.now) c.sought.ensures in
     c.frame_by.ensures
-    ∙ ap (λ (l : Lookup). frame_by l a.id a.ours a.peers a.path a.payload.now a.out.now a.place) found
-    ∙ (sent_by_lookup a.rows.now a.id a.payload.now a.out.now a.place).1 a.ours a.peers a.path
+    ∙ ap (λ (l : Result (Option Entry) Refusal). frame_by l a.id a.terms.our_setting a.terms.peer_setting a.terms.path_size a.payload.now a.out.now a.place) found
+    ∙ (sent_by_lookup a.rows.now a.id a.payload.now a.out.now a.place).1 a.terms.our_setting a.terms.peer_setting a.terms.path_size

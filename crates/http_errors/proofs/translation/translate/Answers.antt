@@ -1,7 +1,8 @@
 -- An entry of the table is `at_table` of Table; a number that is not known is by the laws of Lookup.
 -- the rows are what `becomes` says
+use Rattle.std.specs.Prelude.{Ok}
 use Rattle.walks.proofs.Words.{ap, ◌∙◌, ℕ, ◌-◌, rules}
-use Rattle.http_errors.proofs.Terms.{becomes, errors, versions, Becomes}
+use Rattle.http_errors.proofs.Terms.{becomes, errors, versions}
 use Rattle.http_errors.proofs.{Table.at_table, Lookup.nth-below, Lookup.nth_past, Lookup.entry, Lookup.known, Lookup.unknown_error, Lookup.unknown_version}
 use Rattle.http_errors.proofs.translation.translate.Goals as goal
 
@@ -10,7 +11,7 @@ unfolding becomes
 returns-in-1-to-3 c =
     let a = c.args in
     let row = c.row_of.ensures in
-    ap Becomes (at_table entry 6 3 _ (a.version - 1) _ _ row.1 (search rules) ∙ ap (λ (i : ℕ). entry i (a.version - 1)) row.0)
+    ap Ok (at_table entry 6 3 _ (a.version - 1) _ _ row.1 (search rules) ∙ ap (λ (i : ℕ). entry i (a.version - 1)) row.0)
     ∙ known a.error _ (search rules) (search rules) (search rules) (search rules)
 
 pub returns-in_default-version : goal.returns-in_default-version

@@ -2,10 +2,10 @@
 use Rattle.reader_answers.proofs.Terms.{fed_took}
 use Rattle.reader_answers.proofs.reader.fed_took.Goals as goal
 
-pub returns-in-Nothing : goal.returns-in-Nothing
+pub returns-in-None : goal.returns-in-None
 unfolding fed_took
-returns-in-Nothing c = rw c.in-Nothing.is
+returns-in-None c = rw c.in-None.is
 
-pub returns-in-Capsule : goal.returns-in-Capsule
+pub returns-in-Some : goal.returns-in-Some
 unfolding fed_took
-returns-in-Capsule c = rw c.in-Capsule.is c.fed_report.ensures
+returns-in-Some c = rw c.in-Some.is c.fed_report.ensures

@@ -2,10 +2,10 @@
 use Rattle.reader_answers.proofs.Terms.{looked_answer}
 use Rattle.reader_answers.proofs.sight.looked_answer.Goals as goal
 
-pub returns-in-Refused : goal.returns-in-Refused
+pub returns-in-Err : goal.returns-in-Err
 unfolding looked_answer
-returns-in-Refused c = rw (c.refusal_number.ensures, c.in-Refused.is)
+returns-in-Err c = rw (c.refusal_number.ensures, c.in-Err.is)
 
-pub returns-in-Seen : goal.returns-in-Seen
+pub returns-in-Ok : goal.returns-in-Ok
 unfolding looked_answer
-returns-in-Seen c = rw (c.sight_answer.ensures, c.in-Seen.is)
+returns-in-Ok c = rw (c.sight_answer.ensures, c.in-Ok.is)

@@ -10,11 +10,11 @@ use Rattle.reader_calls.proofs.reader.open_words.Goals.{After-open}
 named : (c : After-open) → let o = c.args.opening in c.open.result ≡ open_of (role_of o.role) o.datagram_limit (flag_of o.draft) (flag_of o.addresses)
 named c = rw (← c.role_of.ensures, ← c.flag_of.ensures, ← c.flag_of-2.ensures) c.open.ensures
 
-pub returns-in-Refused : goal.returns-in-Refused
+pub returns-in-Err : goal.returns-in-Err
 unfolding open_words opened_at
-returns-in-Refused c =
-    rw c.refusal_number.ensures (ap (opened_at c.args.words.now) (sym c.in-Refused.is ∙ named (goal.at.returns-in-Refused c).After-open))
+returns-in-Err c =
+    rw c.refusal_number.ensures (ap (opened_at c.args.words.now) (sym c.in-Err.is ∙ named (goal.at.returns-in-Err c).After-open))
 
-pub returns-in-Ready : goal.returns-in-Ready
+pub returns-in-Ok : goal.returns-in-Ok
 unfolding open_words opened_at
-returns-in-Ready c = rw c.store.ensures (ap (opened_at c.args.words.now) (sym c.in-Ready.is ∙ named (goal.at.returns-in-Ready c).After-open))
+returns-in-Ok c = rw c.store.ensures (ap (opened_at c.args.words.now) (sym c.in-Ok.is ∙ named (goal.at.returns-in-Ok c).After-open))

@@ -1,11 +1,13 @@
--- The test is the definition's.
+-- A flag's number is 1 or 0.
+use mir.Val.{bool_byte}
+use Rattle.walks.proofs.Words.{◌≡◌, Bool, true, false}
 use Rattle.reader_words.proofs.Terms.{bit_of}
 use Rattle.reader_words.proofs.numbers.bit_of.Goals as goal
 
-pub returns-then-flag : goal.returns-then-flag
+pub returns : goal.returns
 unfolding bit_of
-returns-then-flag c = rw c.if-flag.true
-
-pub returns-else-flag : goal.returns-else-flag
-unfolding bit_of
-returns-else-flag c = rw c.if-flag.false
+returns c = go c.args.flag c.from.ensures
+  where
+    go : (b : Bool) → c.from.result ≡ bool_byte b → c.from.result ≡ bit_of b
+    go true e = e
+    go false e = e

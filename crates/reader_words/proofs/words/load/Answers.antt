@@ -4,10 +4,10 @@ use Rattle.reader_words.proofs.Terms.{reader_mark, with_phase}
 use Rattle.reader_words.proofs.StoredForm.{reads_so}
 use Rattle.reader_words.proofs.words.load.Goals as goal
 
-pub returns-in-Nothing : goal.returns-in-Nothing
+pub returns-in_err-phase : goal.returns-in_err-phase
 unfolding with_phase reader_mark
-returns-in-Nothing c = reads_so _ (omega arith) (omega arith) (omega arith) (omega arith) _ (rw (sym c.load_phase.ensures ∙ c.in-Nothing.is))
+returns-in_err-phase c = rw c.from_residual.ensures (reads_so _ (omega arith) (omega arith) (omega arith) (omega arith) _ (rw (sym c.load_phase.ensures ∙ c.in_err-phase.was)))
 
-pub returns-in-Is : goal.returns-in-Is
+pub returns : goal.returns
 unfolding with_phase reader_mark
-returns-in-Is c = reads_so _ (omega arith) (omega arith) (omega arith) (omega arith) _ (rw (sym c.load_phase.ensures ∙ c.in-Is.is, c.flag_of.ensures, c.addresses_in.ensures, c.draft_in.ensures, c.role_in.ensures))
+returns c = reads_so _ (omega arith) (omega arith) (omega arith) (omega arith) _ (rw (sym c.load_phase.ensures ∙ c.in_ok-phase.was, c.flag_of.ensures, c.addresses_in.ensures, c.draft_in.ensures, c.role_in.ensures))

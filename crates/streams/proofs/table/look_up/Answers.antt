@@ -1,7 +1,7 @@
--- By what was found, and the record there.
+-- By what was found.
 use Rattle.walks.proofs.Words.{◌∙◌}
 use Rattle.streams.proofs.Terms.{lookup_right}
 use Rattle.streams.proofs.table.look_up.Goals as goal
 
 pub returns : goal.returns
-returns c = c.lookup.ensures ∙ lookup_right c.args.quarter.0 c.args.rows.now _ _ c.look_through-survey.ensures c.record_at-record.ensures
+returns c = c.lookup.ensures ∙ lookup_right c.args.quarter.0 c.args.rows.now _ c.look_through.ensures

@@ -7,6 +7,6 @@ pub returns-then-frees : goal.returns-then-frees
 unfolding closed_side
 returns-then-frees c = rw (sym c.frees.ensures ∙ c.if-frees.true)
 
-pub returns : goal.returns
+pub returns-else-frees : goal.returns-else-frees
 unfolding closed_side
-returns c = rw (sym c.frees.ensures ∙ c.if-frees.false) c.with_closed.ensures
+returns-else-frees c = rw (sym c.frees.ensures ∙ c.if-frees.false) c.with_closed.ensures

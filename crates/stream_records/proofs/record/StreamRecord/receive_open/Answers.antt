@@ -1,8 +1,0 @@
--- `StreamRecord::receive_open`, which computes what `flag` says. Assumes nothing.
-use Rattle.walks.proofs.Words.{refl}
-use Rattle.stream_records.proofs.Terms.{flag}
-use Rattle.stream_records.proofs.record.StreamRecord.receive_open.Goals as goal
-
-pub returns : goal.returns
-unfolding flag
-returns c = refl
