@@ -6,9 +6,6 @@ use http_messages::errors::HttpError;
 use refusals::Refusal;
 use stream_records::record::Side;
 
-// A status is a u16.
-const MAX_STATUS: u64 = 65535;
-
 // These are no From: the numbers are the C interface's, and From would have to stand in the crates of the types.
 pub fn refusal_number(why: Refusal) -> u64
     ensures { result ≡ why.0 }
@@ -34,11 +31,10 @@ pub fn side_of(n: u64) -> Side
     Side::Send
 }
 
+// 0 for what is no u16, as a status is.
+#[tactic(auto, unfolding(crate::specs::Numbers::status_of))]
 pub fn status_of(n: u64) -> u16
     ensures { result ≡ status_of n }
 {
-    if n > MAX_STATUS {
-        return 0;
-    }
-    n as u16
+    u16::try_from(n).unwrap_or(0)
 }

@@ -37,8 +37,8 @@ pub fn listing_answer(listed: Result<Counted, Refusal>) -> ListingAnswer
     }
 }
 
-#[tactic(auto, unfolding(crate::specs::OneShot::ending_number, crate::specs::Numbers::end_number))]
 // No From: the numbers are the C interface's, and From would have to stand in the crate of `Ending`.
+#[tactic(auto, unfolding(crate::specs::OneShot::ending_number, crate::specs::Numbers::end_number))]
 fn ending_number(ending: Ending) -> u64
     ensures { result ≡ ending_number ending }
 {

@@ -26,8 +26,8 @@ pub fn copy_span(src: &[u8], from: usize, dst: &mut [u8], to: usize, n: usize) -
     true
 }
 
-// Three loops by hand: by `copy_from_slice` (tried) a feeding takes up to a tenth longer, and misses aims of `make bench`
-// that these meet.
+// Three loops by hand, with the bound of a block in each: by `copy_from_slice` (tried) a feeding of small values takes up
+// to a tenth longer, and ten rows of `make bench` miss the aim of 1.00 that these meet.
 fn blocks(src: &[u8], from: usize, dst: &mut [u8], to: usize, n: usize)
     requires n_in_bounds { from + n ≤ length src.now }
     requires n_in_bounds_2 { to + n ≤ length dst.old }

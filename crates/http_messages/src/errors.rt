@@ -1,5 +1,5 @@
-// The errors of documents 01 and 02, by their numbers. An enum could not hold an error that is not known: that is any
-// u64, and translating it is refused.
+// The errors of documents 01 and 02, by their numbers. A number with constants: the
+// theorems on translation speak of every number, and one that is no error's is refused.
 #[derive(Clone, Copy)]
 pub struct HttpError(pub u64);
 

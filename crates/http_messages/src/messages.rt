@@ -2,7 +2,7 @@
 ghost use Rattle.std.specs.Prelude.{◌≡◌};
 ghost use Rattle.http_messages.specs.Messages.{field_counts, request_malformed, response_malformed, status_malformed};
 
-// No Option of a status: a request lacks none.
+// No Option of a status: a request is another kind of message, and not a response whose status is missing.
 #[derive(Clone, Copy)]
 pub enum Message {
     Request,
@@ -12,6 +12,7 @@ pub enum Message {
 
 impl Message {
     // Whether the Capsule-Protocol field counts on it.
+    #[tactic(auto, unfolding(crate::specs::Messages::field_counts))]
     pub fn field_counts(self) -> bool
         ensures { result ≡ field_counts self }
     {
@@ -23,6 +24,7 @@ impl Message {
 }
 
 // Whether a request that carries these fields is malformed.
+#[tactic(auto, unfolding(crate::specs::Messages::request_malformed))]
 pub fn request_malformed(content_length: bool, content_type: bool, transfer_encoding: bool) -> bool
     ensures { result ≡ request_malformed content_length content_type transfer_encoding }
 {
@@ -30,6 +32,7 @@ pub fn request_malformed(content_length: bool, content_type: bool, transfer_enco
 }
 
 // Whether a response with this status that carries these fields is malformed.
+#[tactic(auto, unfolding(crate::specs::Messages::response_malformed))]
 pub fn response_malformed(
     status: u16,
     content_length: bool,

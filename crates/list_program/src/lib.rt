@@ -106,7 +106,8 @@ fn list(rt: &(impl Print + Eprint), source: &mut impl Read, name: &str) {
     }
 }
 
-// Goes on until the last line waits or a failure was said, and writes what waits then.
+// Goes on until the last line waits or a failure was said, and writes what waits then. The bound is there since a reader
+// could give bytes for ever.
 fn list_all(rt: &(impl Print + Eprint), source: &mut impl Read, name: &str, reader: Reader)
     requires { Ready reader 1200 0 0 }
 {
@@ -196,6 +197,7 @@ fn list_read(l: Progress, input: &[u8], buffers: &mut Buffers) -> Progress
     let mut reader = l.reader;
     let mut used = l.used;
     let mut held = l.held;
+    // each turn goes on behind what the reader consumed, which no iterator knows before
     while used < have && block.len() - held >= LONGEST {
         let fed = reader.feed(&input[used..have], gathering, addresses, output);
         reader = fed.reader;

@@ -21,10 +21,10 @@ ending_of (b ∷ r) = Truncated
 abbrev pub longest_buffer : ℕ
 longest_buffer = 4096
 
--- above that, refusal 16
 abbrev pub count_of : ℕ → ℕ → Ending → Counted
 count_of capsules headers ending = record { capsules = capsules; headers = headers; ending = ending }
 
+-- above that, refusal 16
 unfoldable pub listing_of : List ℕ → Result Counted Refusal
 listing_of s =
     cond (leb (length s) longest_buffer)

@@ -237,7 +237,7 @@ fn reach_by_length(op: Opening, piece: &[u8], at: usize, ctype: u64, have: u8, r
     }
 }
 
-// The same where no byte of the type has come before.
+// A short header at the front of the piece, where no byte of the type has come before.
 #[tactic(auto, unfolding(crate::specs::Headers::first_header))]
 fn first_header(piece: &[u8], part: Partial) -> Option<Header>
     ensures { result ≡ first_header part piece.now }

@@ -5,7 +5,7 @@ ghost use Rattle.reader_words.specs.Numbers.{flag_of, bit_of, role_of};
 use opening::Role;
 
 // These are no From: they are the numbers of the C interface and of the words, and `bool`, `u64` and `Role` are not of
-// this crate.
+// this crate. `role_of` and `side_of` (answers) are alike in shape alone.
 pub fn flag_of(n: u64) -> bool
     ensures { result ≡ flag_of n }
 {

@@ -38,8 +38,6 @@ unfoldable pub next : Option ℕ → Option ℕ
 next None = None
 next (Some i) = Some (suc i)
 
--- ---- answers
-
 abbrev pub table_entry : ℕ → StreamRecord → Entry
 table_entry place stream = record { place = place; stream = stream }
 

@@ -106,6 +106,7 @@ impl StreamRecord {
     }
 
     // Whether both sides are closed once this one is.
+    #[tactic(auto, using(crate::proofs::Flags::frees_receive, crate::proofs::Flags::frees_send))]
     pub fn frees(self, side: Side) -> bool
         ensures { result ≡ both_closed (with_closed side self) }
     {

@@ -8,8 +8,7 @@ use stream_records::answers::Entry;
 use stream_records::record::StreamRecord;
 use wire::units::Quarter;
 
-// No Result: the place goes on being looked for behind a bad record, so that no step branches on what the one before
-// found.
+// No Result: all records are looked at, also behind a bad one, and what was found so far goes from one to the next.
 #[derive(Clone, Copy)]
 pub struct Survey {
     pub bad: bool,
