@@ -8,14 +8,14 @@ use Rattle.one_shot_listing.proofs.Terms.{buffer_too_long, read_varint, reads, p
 -- ---- by what stands at the front of the rest
 
 module _ (capsules headers : ℕ) where
-  nothing_left : Ok (count_of capsules headers Clean) ≡ onwards capsules headers []
+  nothing_left : count_of capsules headers Clean ≡ onwards capsules headers []
   unfolding onwards header_bytes ending_of
   nothing_left =
       let a : capsules + 0 ≡ capsules = omega arith in
       let b : headers + 0 ≡ headers = omega arith in
       rw (parts_nil plain, a, b)
 
-  unfinished : (l : List ℕ) (x : Stage) → 0 < length l → Sees plain l (part x) → Ok (count_of capsules headers Truncated) ≡ onwards capsules headers l
+  unfinished : (l : List ℕ) (x : Stage) → 0 < length l → Sees plain l (part x) → count_of capsules headers Truncated ≡ onwards capsules headers l
   unfolding onwards header_bytes ending_of
   unfinished [] x h v = absurd (let z : ⊥ = omega arith in z)
   unfinished (b ∷ l) x h v =
@@ -49,13 +49,13 @@ module _ (s : List ℕ) (start : ℕ) (within : start ≤ length s) where
       omega (arith, field_within s r.middle n r.size w.1 r.reads, r.ends)
 
   module _ (capsules headers : ℕ) where
-    pub at-end : start ≡ length s → Ok (count_of capsules headers Clean) ≡ onwards capsules headers (drop start s)
+    pub at-end : start ≡ length s → count_of capsules headers Clean ≡ onwards capsules headers (drop start s)
     at-end e = rw (e, drop-length) (nothing_left capsules headers)
 
-    pub in_type_lem : start < length s → read_varint (drop start s) ≡ None → Ok (count_of capsules headers Truncated) ≡ onwards capsules headers (drop start s)
+    pub in_type_lem : start < length s → read_varint (drop start s) ≡ None → count_of capsules headers Truncated ≡ onwards capsules headers (drop start s)
     in_type_lem h e = unfinished capsules headers (drop start s) in_type (omega (arith, length-drop start s)) (sees_type e)
 
-    pub in_length_lem : (at : ℕ) → TypeRead s start at → read_varint (drop at s) ≡ None → Ok (count_of capsules headers Truncated) ≡ onwards capsules headers (drop start s)
+    pub in_length_lem : (at : ℕ) → TypeRead s start at → read_varint (drop at s) ≡ None → count_of capsules headers Truncated ≡ onwards capsules headers (drop start s)
     in_length_lem at r e =
         let d : drop r.size (drop start s) ≡ drop at s = rw (drop-drop, r.ends) in
         unfinished capsules headers (drop start s) (in_length r.ctype r.size) (omega (arith, type_within at r, length-drop start s)) (sees_length r.reads (rw d e))
@@ -64,7 +64,7 @@ module _ (s : List ℕ) (start : ℕ) (within : start ≤ length s) where
       length_reads : read_varint (drop r.type_read.size (drop start s)) ≡ Some (varint_of n r.size)
       length_reads = rw (drop-drop, ← r.type_read.ends) r.reads
 
-      pub in_value_lem : length s - at < n → Ok (count_of capsules headers Truncated) ≡ onwards capsules headers (drop start s)
+      pub in_value_lem : length s - at < n → count_of capsules headers Truncated ≡ onwards capsules headers (drop start s)
       in_value_lem h =
           unfinished capsules headers (drop start s) (in_value r.type_read.ctype n (r.type_read.size + r.size))
           (omega (arith, head_within at n r, length-drop start s))
@@ -85,7 +85,7 @@ pub accepted : (s : List ℕ) → length s ≤ longest_buffer → listing_of s �
 unfolding listing_of
 accepted s h = rw (le-leb (length s) longest_buffer h)
 
-pub listed : (s : List ℕ) → length s ≤ longest_buffer → onwards 0 0 s ≡ listing_of s
+pub listed : (s : List ℕ) → length s ≤ longest_buffer → Ok (onwards 0 0 s) ≡ listing_of s
 unfolding onwards
 listed s h =
     let p = parts s in

@@ -2,16 +2,15 @@
 use Rattle.one_shot_listing.specs.declared.Counted.{Counted}
 use Rattle.one_shot_listing.specs.Listing.{count_of}
 use Rattle.short_forms.specs.Short.{varint_of}
-use Rattle.std.specs.Prelude.{ℕ, ◌+◌, ◌≤◌, ◌≡◌, List, length, drop, Some, Result, Ok}
-use Rattle.refusals.specs.declared.Refusal.{Refusal}
+use Rattle.std.specs.Prelude.{ℕ, ◌+◌, ◌≤◌, ◌≡◌, List, length, drop, Some}
 use Rattle.wire.specs.Varint.{read_varint}
 use Rattle.capsule.specs.Grammar.{parts}
 use Rattle.one_shot_listing.specs.Listing.{header_bytes, ending_of}
 
 -- the counts so far, and those of the rest
-unfoldable pub onwards : ℕ → ℕ → List ℕ → Result Counted Refusal
+unfoldable pub onwards : ℕ → ℕ → List ℕ → Counted
 onwards capsules headers rest =
-    Ok (count_of (capsules + length (parts rest).capsules) (headers + header_bytes (parts rest).capsules) (ending_of (parts rest).tail))
+    count_of (capsules + length (parts rest).capsules) (headers + header_bytes (parts rest).capsules) (ending_of (parts rest).tail)
 
 -- the counts of what stands before `start`
 pub record Before (s : List ℕ) (start capsules headers : ℕ) : Type 0 where

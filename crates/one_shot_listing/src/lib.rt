@@ -28,32 +28,31 @@ pub fn list(buffer: &[u8]) -> Result<Counted, Refusal>
     if buffer.len() > LONGEST_BUFFER {
         return Err(Refusal::BUFFER_TOO_LONG);
     }
-    read_type(buffer, 0, 0, 0)
+    Ok(read_type(buffer, 0, 0, 0))
 }
 
-// It answers a Result, always Ok: `Counted` alone has padding, which the recursion would copy in pieces at each return, and
-// the listing would take 1.6 times as long. The reading goes round, type to length to value to the next type: document 01 names the form, three functions in a
+// The reading goes round, type to length to value to the next type: document 01 names the form, three functions in a
 // cycle. A capsule starts at `start`; `capsules` and `headers` count what stands before it. `Before` ties the counts
 // to the bytes before `start`; a struct with it as its invariant would have to carry the buffer.
 #[cycle(listing)]
-fn read_type(s: &[u8], start: usize, capsules: usize, headers: usize) -> Result<Counted, Refusal>
+fn read_type(s: &[u8], start: usize, capsules: usize, headers: usize) -> Counted
     requires { Before s.now start capsules headers }
     ensures { result ≡ onwards capsules headers (drop start s.now) }
 {
     match read_varint(&s[start..]) {
         None => {
             if start == s.len() {
-                return Ok(Counted {
+                return Counted {
                     capsules,
                     headers,
                     ending: Ending::Clean,
-                });
+                };
             }
-            Ok(Counted {
+            Counted {
                 capsules,
                 headers,
                 ending: Ending::Truncated,
-            })
+            }
         }
         Some(ctype) => read_length(s, start, start + ctype.size, capsules, headers),
     }
@@ -61,22 +60,16 @@ fn read_type(s: &[u8], start: usize, capsules: usize, headers: usize) -> Result<
 
 // Its type ends at `at`.
 #[cycle(listing)]
-fn read_length(
-    s: &[u8],
-    start: usize,
-    at: usize,
-    capsules: usize,
-    headers: usize,
-) -> Result<Counted, Refusal>
+fn read_length(s: &[u8], start: usize, at: usize, capsules: usize, headers: usize) -> Counted
     requires { Before s.now start capsules headers × TypeRead s.now start at }
     ensures { result ≡ onwards capsules headers (drop start s.now) }
 {
     match read_varint(&s[at..]) {
-        None => Ok(Counted {
+        None => Counted {
             capsules,
             headers,
             ending: Ending::Truncated,
-        }),
+        },
         Some(length) => read_value(s, start, at + length.size, length.value, capsules, headers),
     }
 }
@@ -90,17 +83,17 @@ fn read_value(
     length: u64,
     capsules: usize,
     headers: usize,
-) -> Result<Counted, Refusal>
+) -> Counted
     requires { Before s.now start capsules headers × HeadRead s.now start at length }
     ensures { result ≡ onwards capsules headers (drop start s.now) }
 {
     let room = (s.len() - at) as u64;
     if room < length {
-        return Ok(Counted {
+        return Counted {
             capsules,
             headers,
             ending: Ending::Truncated,
-        });
+        };
     }
     let header = at - start;
     read_type(s, at + (length as usize), capsules + 1, headers + header)
