@@ -1,6 +1,6 @@
 -- Bytes put one after another. Assumes nothing.
 use Rattle.std.specs.Prelude.{Result, Ok, Err}
-use Rattle.walks.proofs.Words.{refl, le-leb, lt-leb, leb, leb-true, leb-false, ◌≡◌, sym, ap, ◌∙◌, subst, ℕ, ◌+◌, ◌-◌, ◌*◌, ◌/◌, ◌≤◌, ◌<◌, arith, Bool, true, false, List, [], ◌∷◌, ◌++◌, length, take, drop, get_or, length-append, append_assoc, sets, sets-eq, take-take, drop-drop, length-take-le, pow_mono}
+use Rattle.walks.proofs.Words.{refl, le-leb, lt-leb, leb, leb-true, leb-false, ◌≡◌, sym, ap, ◌∙◌, subst, ℕ, ◌+◌, ◌-◌, ◌*◌, ◌/◌, ◌≤◌, ◌<◌, arith, Bool, true, false, List, [], ◌∷◌, ◌++◌, length, take, drop, get_or, length-append, append_assoc, sets, sets-eq, take-take, drop-drop, length-take-le, pow_mono, ne_eqb}
 use Rattle.std.proofs.lemmas.List.{length-take}
 use Rattle.std.specs.Simd.{first_chunks}
 use borrow.Rule.Slice.PartMut.{put_mid}
@@ -75,6 +75,22 @@ put_part s out at n l h =
 
 pub address-length : (s : List ℕ) (version : ℕ) → 16 ≤ length s → length (take (width_of version) s) ≡ width_of version
 address-length s version h = length-take-le (width_of version) s (omega (arith, width_most version))
+
+-- a version as the code tells it apart
+pub width-four : (version : ℕ) → version ≡ 4 → width_of version ≡ 4
+unfolding width_of
+width-four version e = rw e
+
+pub width-six : (version : ℕ) → version ≡ 6 → width_of version ≡ 16
+unfolding width_of
+width-six version e = rw e
+
+pub put_address_as : (s out : List ℕ) (version at n : ℕ) → width_of version ≡ n → 16 ≤ length s → at + n ≤ length out → Put (take (width_of version) s) out at (put_mid at (at + n - at) out (take n s)) (at + n)
+put_address_as s out version at n e l h = rw e (put_part (take n s) out at n (rw e at (address-length s version l)) h)
+
+pub put_none : (s out : List ℕ) (version at : ℕ) → (version ≡ 4 → ⊥) → (version ≡ 6 → ⊥) → Put (take (width_of version) s) out at out at
+unfolding width_of
+put_none s out version at f g = rw (ne_eqb version 4 f, ne_eqb version 6 g) (record { stored = refl; next = omega arith })
 
 pub address_most : (s : List ℕ) (version : ℕ) → length (take (width_of version) s) ≤ 16
 address_most s version = omega (arith, width_most version, take_most (width_of version) s)

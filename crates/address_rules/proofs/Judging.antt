@@ -95,11 +95,11 @@ pass-starts (Some rs) = sym (pass-is_rule rs)
 
 -- ---- a range behind those before it
 
-module _ (st : Seen) (q : Option RangeBytes) (h : Preceded st.previous q) (r : Range) where
-  pub fit_turned : ltb r.end r.start ≡ true → false ≡ fits st r
-  unfolding fits good_range
-  fit_turned e = rw e
+pub fit_turned : (st : Seen) (r : Range) → ltb r.end r.start ≡ true → false ≡ fits st r
+unfolding fits good_range
+fit_turned st r e = rw e
 
+module _ (st : Seen) (q : Option RangeBytes) (h : Preceded st.previous q) (r : Range) where
   first_of_all : (o : Option Range) → Preceded o q → q ≡ None → o ≡ None
   first_of_all None k e = refl
   first_of_all (Some p) k e = absurd (rw e at k)

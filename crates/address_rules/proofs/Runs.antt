@@ -1,10 +1,5 @@
 -- Addresses compared byte by byte. Assumes nothing.
-use Rattle.walks.proofs.Words.{◌≡◌, refl, sym, ◌∙◌, Bool, true, false, cond, ℕ, suc, ◌+◌, ◌*◌, ◌^◌, ◌≤◌, ◌<◌, mul-le-mul_right, arith, List, [], ◌∷◌, length, ltb, eqb, lt-ltb, le-ltb, ltb-true, ltb-false, eqb-true, eqb-false}
-use Rattle.std.specs.Prelude.{Some}
-use Rattle.std.specs.Ordering.{is_lt, is_some_and, nat_cmp}
-use Rattle.std.specs.Cmp.Lexicographic.{slice_partial_cmp}
-use Rattle.std.proofs.lemmas.Cmp.{same_from_slice_cmp_tested}
-use Rattle.std.proofs.lemmas.Bool.Decides.{nat_tests}
+use Rattle.walks.proofs.Words.{◌≡◌, refl, sym, ap, ◌∙◌, Bool, true, false, ℕ, suc, ◌+◌, ◌*◌, ◌^◌, ◌≤◌, ◌<◌, ◌⊎◌, ⊎_elim, mul-le-mul_right, arith, List, [], ◌∷◌, length, ltb, lt-ltb, le-ltb, ltb-true, ltb-false}
 use Rattle.address_rules.proofs.Terms.{Bytes, num, num_lt, num_cons}
 
 num-first-less : (x y : ℕ) (s t : List ℕ) → length s ≡ length t → Bytes s → x < y → num (x ∷ s) < num (y ∷ t)
@@ -24,37 +19,39 @@ num-first_same x s t l = go (ltb (num s) (num t)) refl
         let h = ltb-false (num s) (num t) e in
         le-ltb (num (x ∷ s)) (num (x ∷ t)) (rw (num_cons x s, num_cons x t, ← l) (omega arith)) ∙ sym e
 
--- ---- the order of lists, which is that of the numbers if they are equally long
+-- ---- two addresses that are equally long, from a place on
 
-lex : List ℕ → List ℕ → Bool
-lex [] [] = false
-lex [] (y ∷ ys) = true
-lex (x ∷ xs) [] = false
-lex (x ∷ xs) (y ∷ ys) = cond (ltb x y) true (cond (eqb x y) (lex xs ys) false)
+-- what is left of them compares as the whole
+abbrev pub Left : List ℕ → List ℕ → List ℕ → List ℕ → Type 0
+Left s t a b = length a ≡ length b → (length s ≡ length t) × Bytes s × Bytes t × (ltb (num s) (num t) ≡ ltb (num a) (num b))
 
-is_lex : (xs ys : List ℕ) (r : Bool) → r ≡ is_some_and is_lt (slice_partial_cmp (λ x y. Some (nat_cmp x y)) xs ys) → r ≡ lex xs ys
-unfolding lex
-is_lex = same_from_slice_cmp_tested nat_cmp is_lt lex refl (λ _ _. refl) (λ _ _. refl) (λ x y xs ys o h. grind (arith, nat_tests))
+pub left_whole : (a b : List ℕ) → Bytes a → Bytes b → Left a b a b
+left_whole a b p q h = (h, p, q, refl)
 
-lex_num : (s t : List ℕ) → length s ≡ length t → Bytes s → Bytes t → lex s t ≡ ltb (num s) (num t)
-unfolding lex
-lex_num [] [] l p q = sym (le-ltb (num []) (num []) (omega arith))
-lex_num [] (y ∷ t) l p q = absurd (omega arith)
-lex_num (x ∷ s) [] l p q = absurd (omega arith)
-lex_num (x ∷ s) (y ∷ t) l p q = go (lex_num s t (omega arith) p.1 q.1) (ltb x y) (eqb x y) refl refl
-  where
-    k : length s ≡ length t
-    k = omega arith
+module _ (s t a b : List ℕ) (g : Left s t a b) where
+  pub left_none : (s ≡ []) ⊎ (t ≡ []) → length a ≡ length b → false ≡ ltb (num a) (num b)
+  left_none e h = go s t e (g h).0 ∙ (g h).3
+    where
+      go : (s t : List ℕ) → (s ≡ []) ⊎ (t ≡ []) → length s ≡ length t → false ≡ ltb (num s) (num t)
+      go [] [] e l = sym (le-ltb (num []) (num []) (omega arith))
+      go [] (y ∷ t) e l = absurd (omega arith)
+      go (x ∷ s) [] e l = absurd (omega arith)
+      go (x ∷ s) (y ∷ t) e l = ⊎_elim (λ f. absurd (omega (arith, ap length f))) (λ f. absurd (omega (arith, ap length f))) e
 
-    go : lex s t ≡ ltb (num s) (num t) → (a b : Bool) → ltb x y ≡ a → eqb x y ≡ b → cond a true (cond b (lex s t) false) ≡ ltb (num (x ∷ s)) (num (y ∷ t))
-    go again true b e f = sym (lt-ltb _ _ (num-first-less x y s t k p.1 (ltb-true x y e)))
-    go again false true e f = rw (← (eqb-true x y f)) (again ∙ sym (num-first_same x s t k))
-    go again false false e f =
-        let n : x ≡ y → ⊥ = eqb-false x y f in
-        let m : y ≤ x = ltb-false x y e in
-        let h : y < x = omega arith in
-        let g = num-first-less y x t s (sym k) q.1 h in
-        sym (le-ltb (num (x ∷ s)) (num (y ∷ t)) (omega arith))
+  module _ (x y : ℕ) (u v : List ℕ) (is_s : s ≡ x ∷ u) (is_t : t ≡ y ∷ v) where
+    long : length a ≡ length b → length u ≡ length v
+    long h = omega (arith, (g h).0, ap length is_s, ap length is_t)
 
-pub below_is : (s t : List ℕ) → length s ≡ length t → Bytes s → Bytes t → (r : Bool) → r ≡ is_some_and is_lt (slice_partial_cmp (λ x y. Some (nat_cmp x y)) s t) → r ≡ ltb (num s) (num t)
-below_is s t l p q r e = is_lex s t r e ∙ lex_num s t l p q
+    pub left_first : (x ≡ y → ⊥) → (r : Bool) → r ≡ ltb x y → length a ≡ length b → r ≡ ltb (num a) (num b)
+    left_first n r d h = d ∙ go (ltb x y) refl ∙ rw (is_s, is_t) at (g h).3
+      where
+        go : (c : Bool) → ltb x y ≡ c → ltb x y ≡ ltb (num (x ∷ u)) (num (y ∷ v))
+        go true e = e ∙ sym (lt-ltb _ _ (num-first-less x y u v (long h) (rw is_s at (g h).1).1 (ltb-true x y e)))
+        go false e =
+            let m : y ≤ x = ltb-false x y e in
+            let l : y < x = omega arith in
+            let k = num-first-less y x v u (sym (long h)) (rw is_t at (g h).2).1 l in
+            e ∙ sym (le-ltb (num (x ∷ u)) (num (y ∷ v)) (omega arith))
+
+    pub left_on : x ≡ y → Left u v a b
+    left_on e h = (long h, (rw is_s at (g h).1).1, (rw is_t at (g h).2).1, sym (num-first_same x u v (long h)) ∙ ap (λ (n : ℕ). ltb (num (x ∷ u)) (num (n ∷ v))) e ∙ rw (is_s, is_t) at (g h).3)

@@ -1,7 +1,7 @@
 -- A value written as a capsule. Assumes nothing.
 use Rattle.std.specs.Prelude.{Result, Ok, Err}
 use Rattle.refusals.specs.declared.Refusal.{Refusal}
-use Rattle.walks.proofs.Words.{◌≡◌, refl, sym, ap, ◌∙◌, ℕ, ◌+◌, ◌≤◌, ◌<◌, arith, Bool, true, false, List, [], ◌∷◌, ◌++◌, length, take, drop, length-append, set, length-set, sets, length-sets, sets-eq, take_at, take-length, leb, le-leb, lt-leb, leb-true, leb-false, length-take-le, cond, ◌&&◌, ◌⊎◌, ⊎_elim, inr}
+use Rattle.walks.proofs.Words.{◌≡◌, refl, sym, ap, ◌∙◌, ℕ, ◌+◌, ◌≤◌, ◌<◌, arith, Bool, true, false, List, [], ◌∷◌, ◌++◌, length, take, drop, length-append, set, length-set, sets, length-sets, sets-eq, take_at, take-length, leb, le-leb, lt-leb, leb-true, leb-false, length-take-le, cond, ◌&&◌, ◌⊎◌, ⊎_elim, inl, inr, ◌%◌, eq-eqb, ne_eqb}
 use Rattle.address_writer.proofs.Terms.{output_too_short, number_too_large, malformed_to_write, largest, least_size, encode, writing, refuses, write_at, write_varint, length-encode, copying, copy, copied, longest_address_value, all_of, well_formed, is_whole, entries_in, id_fits, capsule_of, write_value, write_addresses, write_routes, Put, Gathered, value_in, put_then, put_number}
 
 pub long_malformed : (t : ℕ) (v : List ℕ) → 1024 < length v → well_formed t v ≡ false
@@ -89,6 +89,16 @@ gathered {v} {before} {after} {n} g l h whole t out place = go (leb n 1024) refl
         let p = long_malformed t (take n after) (omega arith) in
         let q = long_malformed t v (g.long k) in
         sym (malformed t (take n after) out place whole (inr p)) ∙ malformed t v out place whole (inr q)
+
+-- ---- a row with surplus bytes, or with none
+
+module _ (size : ℕ) (row : List ℕ) where
+  pub surplus : (length row % size ≡ 0 → ⊥) → (t : ℕ) (v out : List ℕ) (place : ℕ) → writing (Err malformed_to_write) out ≡ write_value (is_whole size row) t v out place
+  surplus n t v out place = malformed t v out place (is_whole size row) (inl ((unfold is_whole in ne_eqb (length row % size) 0 n)))
+
+  pub whole_row : length row % size ≡ 0 → (t : ℕ) (v out : List ℕ) (place : ℕ) → write_value true t v out place ≡ write_value (is_whole size row) t v out place
+  unfolding is_whole
+  whole_row w t v out place = rw (eq-eqb (length row % size) 0 w)
 
 -- ---- by the type
 

@@ -2,7 +2,7 @@
 // records.
 #![tactic(auto)]
 
-ghost use Rattle.std.specs.Prelude.{◌≡◌};
+ghost use Rattle.std.specs.Prelude.{◌≡◌, true};
 ghost use Rattle.wire.specs.Writing.{writing};
 ghost use Rattle.addresses.specs.Addresses.{assign, request};
 ghost use Rattle.address_writer.specs.Writer.{write_value, write_addresses, write_routes};
@@ -30,10 +30,13 @@ pub fn write_request(entries: &[u8], out: &mut [u8], place: usize) -> Result<usi
 pub fn write_routes(ranges: &[u8], out: &mut [u8], place: usize) -> Result<usize, Refusal>
     ensures { writing result out.new ≡ write_routes ranges.now out.old place }
 {
+    let whole = ranges.len() % RANGE_SIZE == 0;
+    if !whole {
+        return Err(Refusal::MALFORMED_TO_WRITE);
+    }
     let mut value = [0u8; 1058];
     let size = put_ranges(ranges, &mut value);
-    let whole = ranges.len() % RANGE_SIZE == 0;
-    write_value(whole, 3, &value[..size], out, place)
+    write_value(3, &value[..size], out, place)
 }
 
 fn write_addresses(ctype: u8, row: &[u8], out: &mut [u8], place: usize) -> Result<usize, Refusal>
@@ -42,24 +45,20 @@ fn write_addresses(ctype: u8, row: &[u8], out: &mut [u8], place: usize) -> Resul
     if !ids_fit(row) {
         return Err(Refusal::NUMBER_TOO_LARGE);
     }
+    let whole = row.len() % ENTRY_SIZE == 0;
+    if !whole {
+        return Err(Refusal::MALFORMED_TO_WRITE);
+    }
     let mut value = [0u8; 1058];
     let size = put_entries(row, &mut value);
-    let whole = row.len() % ENTRY_SIZE == 0;
-    write_value(whole, ctype, &value[..size], out, place)
+    write_value(ctype, &value[..size], out, place)
 }
 
-// A value of whole records, as a capsule. Of three refusals one comes before the value is put together, and `whole` is
-// the answer of the next, as in the definition.
-fn write_value(
-    whole: bool,
-    ctype: u8,
-    value: &[u8],
-    out: &mut [u8],
-    place: usize,
-) -> Result<usize, Refusal>
-    ensures { writing result out.new ≡ write_value whole ctype value.now out.old place }
+// A value of whole records, as a capsule. Surplus bytes are refused before the value is put together.
+fn write_value(ctype: u8, value: &[u8], out: &mut [u8], place: usize) -> Result<usize, Refusal>
+    ensures { writing result out.new ≡ write_value true ctype value.now out.old place }
 {
-    if !whole || !well_formed(u64::from(ctype), value) {
+    if !well_formed(u64::from(ctype), value) {
         return Err(Refusal::MALFORMED_TO_WRITE);
     }
     let size = value.len();

@@ -129,16 +129,22 @@ pub fn width_of(version: u8) -> usize
     }
 }
 
-// The bits of an address beyond the first `prefix` are all 0.
+// The bits of an address beyond the first `prefix` are all 0: of the byte that the prefix ends in those behind it, and
+// all bytes after that.
 fn clear_beyond(address: &[u8], prefix: u64) -> bool
     ensures { result ≡ clear_beyond prefix address.now }
 {
-    let mut left = prefix;
-    for b in address {
-        if !clear_byte(*b, left) {
+    let whole = (prefix / 8) as usize;
+    if whole >= address.len() {
+        return true;
+    }
+    if !clear_byte(address[whole], prefix % 8) {
+        return false;
+    }
+    for b in &address[whole + 1..] {
+        if *b != 0 {
             return false;
         }
-        left = left.saturating_sub(8);
     }
     true
 }

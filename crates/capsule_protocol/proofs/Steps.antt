@@ -1,6 +1,6 @@
 -- One byte more: what the grammar asks for after it, stage by stage. Assumes nothing.
 use Rattle.walks.proofs.Words.{◌≡◌, refl, sym, ap, ◌∙◌, Bool, true, false, cond, ◌&&◌, ◌||◌, or-false, and-false, and-true, zero-add, false≢true, ℕ, suc, arith, ◌+◌, ◌-◌, List, [], ◌∷◌, length, take, take_all, length-drop, drop, eqb, leb, leb-true, lt-leb, ltb, eqb-true, ltb-false}
-use Rattle.capsule_protocol.proofs.Terms.{Rule, Class, empty, one, every, up_to, ◌then◌, ◌then_many◌, is, is_space, is_lower, is_alpha, is_digit, is_key_start, is_key_byte, is_unescaped, is_escapable, is_token_start, is_token_byte, is_base64, is_bit, sf_integer, sf_decimal, chr, sf_string, sf_token, sf_binary, sf_boolean, bare_item, key, parameters, true_item, in_use, Stage, Reading, Front, Question, Item, Trailing, Semicolon, Key, Equals, Number, Fraction, Text, Escape, Token, Binary, Boolean, Wrong, at, at_if, within, one_more, after_item, after_digits, first_of_bare_item, next_at, rest_of, rest_at, up_to_after, next_of, may_end, may_end_at, Stays, stays_at, SameRest}
+use Rattle.capsule_protocol.proofs.Terms.{Rule, Class, empty, one, every, up_to, ◌then◌, ◌then_many◌, is, is_space, is_lower, is_alpha, is_digit, is_key_start, is_key_byte, is_unescaped, is_escapable, is_token_start, is_token_byte, is_base64, is_bit, sf_integer, sf_decimal, chr, sf_string, sf_token, sf_binary, sf_boolean, bare_item, key, parameters, true_item, in_use, Stage, Reading, Front, Question, Item, Trailing, Semicolon, Key, Equals, Number, Fraction, Text, Escape, Token, Binary, Boolean, Wrong, at, at_if, within, one_more, after_item, after_digits, first_of_bare_item, next_at, rest_of, rest_at, up_to_after, next_of, may_end, may_end_at, Stays, stays_at, is_run, SameRest}
 use Rattle.capsule_protocol.proofs.Joining.{front_same, back_same, then_then, then_one, then_every}
 use Rattle.std.specs.List.{prefix_len, IsFirstAndRest}
 use mathlib.Core.Bool.{and-eq-true_iff}
@@ -298,6 +298,25 @@ run_stays r (b ∷ s) = go (run_stays r s) (stays_at r.stage b) refl
         → rest_of (every is_space) r (b ∷ s) ≡ rest_of (every is_space) r (drop (cond t (1 + prefix_len (stays_at r.stage) s) 0) (b ∷ s))
     go h true e = let k : 1 + prefix_len (stays_at r.stage) s ≡ suc (prefix_len (stays_at r.stage) s) = omega arith in rw k (stays b r e s ∙ h)
     go h false e = refl
+
+pub no_run : (stage : Stage) (s : List ℕ) → is_run stage ≡ false → 0 ≡ prefix_len (stays_at stage) s
+unfolding is_run stays_at
+no_run stage [] e = refl
+no_run Question (b ∷ s) e = refl
+no_run Item (b ∷ s) e = refl
+no_run Semicolon (b ∷ s) e = refl
+no_run Equals (b ∷ s) e = refl
+no_run Number (b ∷ s) e = refl
+no_run Fraction (b ∷ s) e = refl
+no_run Escape (b ∷ s) e = refl
+no_run Boolean (b ∷ s) e = refl
+no_run Wrong (b ∷ s) e = refl
+no_run Key (b ∷ s) e = absurd (false≢true (sym e))
+no_run Text (b ∷ s) e = absurd (false≢true (sym e))
+no_run Token (b ∷ s) e = absurd (false≢true (sym e))
+no_run Binary (b ∷ s) e = absurd (false≢true (sym e))
+no_run Trailing (b ∷ s) e = absurd (false≢true (sym e))
+no_run Front (b ∷ s) e = absurd (false≢true (sym e))
 
 -- a byte, and the bytes behind it that leave the stage as it is
 module _ (v s t : List ℕ) (b : ℕ) (r q : Reading) (e : in_use v ≡ rest_of (every is_space) r s) (f : IsFirstAndRest s b t) (n : q ≡ next_of r b) where

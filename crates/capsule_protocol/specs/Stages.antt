@@ -123,6 +123,24 @@ stays_at Escape b = false
 stays_at Boolean b = false
 stays_at Wrong b = false
 
+-- the stages that some byte leaves as they are
+unfoldable pub is_run : Stage → Bool
+is_run Key = true
+is_run Text = true
+is_run Token = true
+is_run Binary = true
+is_run Trailing = true
+is_run Front = true
+is_run Question = false
+is_run Item = false
+is_run Semicolon = false
+is_run Equals = false
+is_run Number = false
+is_run Fraction = false
+is_run Escape = false
+is_run Boolean = false
+is_run Wrong = false
+
 -- a byte that leaves what is asked for as it is
 abbrev pub Stays : Reading → ℕ → Type 0
 Stays r b = (s : List ℕ) → rest_of (every is_space) r (b ∷ s) ≡ rest_of (every is_space) r s

@@ -2,7 +2,7 @@
 #![tactic(auto)]
 
 ghost use Rattle.std.specs.Prelude.{true, false, ◌+◌, ◌≤◌, ◌<◌, length};
-ghost use Rattle.text_lines.specs.Lines.{end_line, longest};
+ghost use Rattle.text_lines.specs.Lines.{end_line, limit_line, longest};
 ghost use Rattle.list_program.specs.Progress.{line_in, lent_of, Noted, Ready, Read, Within, Listed};
 
 use capsule::reader::{Ending, Reader};
@@ -131,7 +131,8 @@ fn list_all(rt: &(impl Print + Eprint), source: &mut impl Read, name: &str, read
 // The first line waits.
 fn start(reader: Reader, block: &mut [u8]) -> Progress
     requires { longest ≤ length block.old }
-    ensures { Read result reader 0 (length block.new) }
+    ensures state { Read result reader 0 (length block.new) }
+    ensures waits { Noted (limit_line 1200) block.old 0 result.held block.new }
 {
     Progress {
         reader,

@@ -1,16 +1,19 @@
 -- What the three functions of the cycle hand each other: contracts inside the crate.
-use Rattle.one_shot_listing.specs.declared.Counted.{Counted}
-use Rattle.one_shot_listing.specs.Listing.{count_of}
+use Rattle.one_shot_listing.specs.declared.Found.{Found}
 use Rattle.short_forms.specs.Short.{varint_of}
 use Rattle.std.specs.Prelude.{ℕ, ◌+◌, ◌≤◌, ◌≡◌, List, length, drop, Some}
 use Rattle.wire.specs.Varint.{read_varint}
 use Rattle.capsule.specs.Grammar.{parts}
-use Rattle.one_shot_listing.specs.Listing.{header_bytes, ending_of}
+use Rattle.one_shot_listing.specs.Listing.{header_bytes}
+
+-- the answer of the cycle: complete capsules, their header bytes, the bytes behind the last one
+abbrev pub found_of : ℕ → ℕ → ℕ → Found
+found_of capsules headers tail = record { capsules = capsules; headers = headers; tail = tail }
 
 -- the counts so far, and those of the rest
-unfoldable pub onwards : ℕ → ℕ → List ℕ → Counted
+unfoldable pub onwards : ℕ → ℕ → List ℕ → Found
 onwards capsules headers rest =
-    count_of (capsules + length (parts rest).capsules) (headers + header_bytes (parts rest).capsules) (ending_of (parts rest).tail)
+    found_of (capsules + length (parts rest).capsules) (headers + header_bytes (parts rest).capsules) (length (parts rest).tail)
 
 -- the counts of what stands before `start`
 pub record Before (s : List ℕ) (start capsules headers : ℕ) : Type 0 where

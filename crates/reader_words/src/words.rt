@@ -61,10 +61,11 @@ pub fn position_of(words: &[u64; 8]) -> Position
     if words[0] > MARK + 1 {
         return Position::Other;
     }
-    if words[2] > 1 {
+    // before the settings: the other way round (tried), a feeding between two capsules takes two branches more
+    if words[7] != 0 {
         return Position::Other;
     }
-    if words[7] != 0 {
+    if words[2] > 1 {
         return Position::Other;
     }
     let kind = words[3];

@@ -12,7 +12,7 @@ fn feed(rt: &impl Print, reader: Reader, piece: &[u8]) -> io::Result<Fed> {
     let mut addresses = [0u8; 0];
     let mut output = [0u8; 64];
     let fed = reader.feed(piece, &mut gathering, &mut addresses, &mut output);
-    feeding(rt, fed.answer, &gathering, &addresses, &output, "\n")?;
+    feeding(rt, fed.answer, &gathering, &addresses, &output, b"\n")?;
     Ok(fed)
 }
 

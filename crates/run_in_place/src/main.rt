@@ -56,7 +56,7 @@ fn feed(
 ) -> io::Result<Served> {
     let mut output = [0u8; 0];
     let served = serve(connection, piece, gathering, addresses, &mut output);
-    feeding(rt, served.answer, gathering, addresses, &output, " ")?;
+    feeding(rt, served.answer, gathering, addresses, &output, b" ")?;
     Ok(served)
 }
 

@@ -52,20 +52,24 @@ impl fmt::Display for Reported<'_> {
     }
 }
 
-// What a feeding says, each answer behind a word: a refusal, what it wrote, and what ended.
+// What a feeding says, each answer behind some bytes: a refusal, what it wrote, and what ended.
 pub fn feeding(
     rt: &impl Print,
     answer: Result<Advance, Refusal>,
     gathering: &[u8],
     addresses: &[u8],
     output: &[u8],
-    before: &str,
+    before: &[u8],
 ) -> io::Result<()> {
     match answer {
-        Err(why) => print!(rt; "{before}{}", Refused(why)),
+        Err(why) => {
+            rt.write_all(before)?;
+            print!(rt; "{}", Refused(why))
+        }
         Ok(took) => {
             if took.written > 0 {
-                print!(rt; "{before}writes {}", first(output, took.written))?;
+                rt.write_all(before)?;
+                print!(rt; "writes {}", first(output, took.written))?;
             }
             match took.ended {
                 None => Ok(()),
@@ -75,7 +79,8 @@ pub fn feeding(
                         gathering,
                         addresses,
                     };
-                    print!(rt; "{before}{reported}")
+                    rt.write_all(before)?;
+                    print!(rt; "{reported}")
                 }
             }
         }

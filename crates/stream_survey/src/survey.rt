@@ -48,12 +48,14 @@ impl Survey {
         ensures { result ≡ looked_used self r i again quarter.0 }
     {
         let next = self.checked(r, again);
-        match next.place {
-            None if r.quarter == quarter => Survey {
+        // the quarter first: eight instructions a used record, and nine with the place first
+        if r.quarter == quarter && next.place.is_none() {
+            Survey {
                 place: Some(i),
                 ..next
-            },
-            _ => next,
+            }
+        } else {
+            next
         }
     }
 

@@ -1,2 +1,3 @@
 mod Terms
 pub mod Lowest
+pub mod Meeting

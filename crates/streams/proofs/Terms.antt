@@ -6,6 +6,6 @@ pub use Rattle.stream_survey.specs.{declared.survey.Survey.Survey}
 unfoldable pub use Rattle.stream_plans.specs.{Code.standing_by, Code.stored}
 unfoldable pub use Rattle.stream_survey.specs.{Code.fitting}
 pub use Rattle.stream_records.proofs.{Places.first-is, Places.is_free, Places.lowest_first, Places.none_is}
-pub use Rattle.stream_records.specs.{Records.blank, Records.is_used, Records.holds, Tables.Table, Words.UsedBelow, declared.answers.SideClosed.SideClosed, declared.record.StreamRecord.StreamRecord}
-unfoldable pub use Rattle.stream_records.specs.{Tables.lookup_of, Tables.lowest_free, Tables.table_closed, Tables.table_opened}
+pub use Rattle.stream_records.specs.{Records.blank, Records.is_used, Tables.Table, Words.UsedBelow, declared.answers.SideClosed.SideClosed, declared.record.StreamRecord.StreamRecord}
+unfoldable pub use Rattle.stream_records.specs.{Records.holds, Tables.lookup_of, Tables.lowest_free, Tables.table_closed, Tables.table_opened}
 pub use Rattle.wire.specs.{declared.units.Quarter.Quarter}

@@ -31,6 +31,16 @@ unfolding decimal
 decimal_above n h =
     by_above n n h ∙ ap (λ (s : List ℕ). s ++ (last_digit n ∷ [])) (by_enough n (suc (n / 10)) (n / 10) (omega arith) (omega arith))
 
+one-more : (n : ℕ) → 10 ≤ n → length (decimal n) ≡ length (decimal (n / 10)) + 1
+one-more n h = rw (decimal_above n h, length-append) refl
+
+-- a number that goes by four digits at a time
+pub four-more : (n : ℕ) → 10000 ≤ n → length (decimal n) ≡ length (decimal (n / 10000)) + 4
+four-more n h =
+    let e : n / 10 / 10 / 10 / 10 ≡ n / 10000 = omega arith in
+    let m = one-more (n / 10 / 10 / 10) (omega arith) in
+    rw (← e) (omega (arith, one-more n (omega arith), one-more (n / 10) (omega arith), one-more (n / 10 / 10) (omega arith), m))
+
 -- a number and its digits
 data Spells : ℕ → List ℕ → Type 0 where
   alone : {n : ℕ} → n < 10 → Spells n (last_digit n ∷ [])

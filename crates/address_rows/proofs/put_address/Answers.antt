@@ -1,11 +1,13 @@
--- The law `put_part` of Putting.
-use Rattle.walks.proofs.Words.{arith, ◌≡◌}
-use Rattle.address_rows.proofs.Terms.{width_of}
-use Rattle.address_rows.proofs.Putting.{put_part, address-length}
+-- By the version: the law `put_address_as` of Putting, and `put_none` for no version.
+use Rattle.walks.proofs.Words.{arith}
+use Rattle.address_rows.proofs.Putting.{put_address_as, put_none, width-four, width-six}
 use Rattle.address_rows.proofs.put_address.Goals as goal
 
-pub returns : goal.returns
-returns c =
-    let e : c.width_of-width.result ≡ width_of c.args.version = c.width_of-width.ensures.0 in
-    let l = address-length c.args.address.now c.args.version c.requires.0 in
-    rw (e, c.copy_from_slice.ensures.after, e) (put_part _ c.args.out.now c.args.at (width_of c.args.version) l (omega arith))
+pub returns-in-4 : goal.returns-in-4
+returns-in-4 c = rw c.copy_from_slice.ensures.after (put_address_as c.args.address.now c.args.out.now c.args.version c.args.at 4 (width-four c.args.version c.in-4.is) c.requires.0 (omega (arith, c.requires.1)))
+
+pub returns-in-6 : goal.returns-in-6
+returns-in-6 c = rw c.copy_from_slice-in-6.ensures.after (put_address_as c.args.address.now c.args.out.now c.args.version c.args.at 16 (width-six c.args.version c.in-6.is) c.requires.0 c.requires.1)
+
+pub returns-in_default : goal.returns-in_default
+returns-in_default c = put_none c.args.address.now c.args.out.now c.args.version c.args.at (λ e. omega (arith, e)) (λ e. omega (arith, e))

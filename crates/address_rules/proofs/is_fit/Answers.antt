@@ -20,7 +20,7 @@ ordered c st h w =
     at (c.is_before.ensures (J.preceded_wide st.previous c.in-Some.before (rw c.in-Some.is at h)) (rw k at (J.lent_wide v c.args.at c.args.width c.lent-range.result c.lent-range.ensures (bytes_each v (λ i. (c.type_inv.value i).fits)) c.requires.1)))
 
 pub returns-then-is_turned : goal.returns-then-is_turned
-returns-then-is_turned c = λ st h w d k. J.fit_turned st c.args.previous h _ (sym (turned (goal.at.returns-then-is_turned c).After-is_turned) ∙ c.if-is_turned.true)
+returns-then-is_turned c = λ st h w d k. J.fit_turned st _ (sym (turned (goal.at.returns-then-is_turned c).After-is_turned) ∙ c.if-is_turned.true)
 
 pub returns-in_default : goal.returns-in_default
 returns-in_default c = λ st h w d k. J.fit_first st c.args.previous h _ (sym (turned (goal.at.returns-in_default c).After-is_turned) ∙ c.if-is_turned.false) c.in_default.is

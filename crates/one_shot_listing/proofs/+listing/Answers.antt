@@ -1,15 +1,13 @@
 -- By what `read_varint` answers at each field: the laws of Rounds.
 use Rattle.std.specs.Prelude.{Some}
+use Rattle.one_shot_listing.specs.Cycle.{found_of}
 use Rattle.short_forms.specs.Short.{varint_of}
-use Rattle.walks.proofs.Words.{◌≡◌, refl, sym, ap, ◌∙◌, arith, drop}
+use Rattle.walks.proofs.Words.{◌≡◌, refl, sym, ap, ◌∙◌, arith, length, drop, length-drop}
 use Rattle.one_shot_listing.proofs.Terms.{read_varint, rest_of}
-use Rattle.one_shot_listing.proofs.Rounds.{field_within, type_within, head_within, at-end, in_type_lem, in_length_lem, in_value_lem, at_next}
+use Rattle.one_shot_listing.proofs.Rounds.{field_within, type_within, head_within, in_type_lem, in_length_lem, in_value_lem, at_next}
 use Rattle.one_shot_listing.proofs.+listing.Goals as goal
 
 -- ---- a type
-
-pub read_type-returns-then-start-s : goal.read_type-returns-then-start-s
-read_type-returns-then-start-s t c = at-end c.args.s.now c.args.start c.requires.within c.args.capsules c.args.headers (omega arith)
 
 pub read_type-overflow_add-start : goal.read_type-overflow_add-start
 read_type-overflow_add-start t c =
@@ -27,9 +25,10 @@ read_type-read_length-requires t c =
       (c.requires, record { ctype = c.in-Some.ctype.value; size = c.in-Some.ctype.size; reads = whole; ends = refl }),
     )
 
-pub read_type-returns-else-start-s : goal.read_type-returns-else-start-s
-read_type-returns-else-start-s t c =
-    in_type_lem c.args.s.now c.args.start c.requires.within c.args.capsules c.args.headers (omega arith)
+pub read_type-returns-in-None : goal.read_type-returns-in-None
+read_type-returns-in-None t c =
+    ap (found_of c.args.capsules c.args.headers) (ap length (rest_of c.args.s.now c.args.start) ∙ length-drop c.args.start c.args.s.now)
+    ∙ in_type_lem c.args.s.now c.args.start c.requires.within c.args.capsules c.args.headers
     (sym (c.read_varint.ensures ∙ ap read_varint (rest_of c.args.s.now c.args.start)) ∙ c.in-None.is)
 
 -- ---- a length

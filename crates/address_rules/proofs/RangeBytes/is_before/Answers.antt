@@ -1,7 +1,6 @@
 -- By the tests, in their order: the laws `before-..` of Judging.
 use Rattle.walks.proofs.Words.{le_antisymm, ◌∙◌, sym, ap}
 use Rattle.address_rules.proofs.Terms.{range_lent, width_of}
-use Rattle.address_rules.proofs.Runs.{below_is}
 use Rattle.address_rules.proofs.Judging as J
 use Rattle.address_rules.proofs.RangeBytes.is_before.Goals as goal
 
@@ -24,5 +23,5 @@ returns-then-next-self-2 c = λ a b. J.before-less (range_lent c.args.self.now) 
 pub returns : goal.returns
 unfolding range_lent
 returns c = λ a b. let e = le_antisymm c.if-next-self.false c.if-self-next.false in
-    below_is c.args.self.now.end.now c.args.next.now.start.now (a.1 ∙ ap width_of e ∙ sym b.0) a.3 b.2 c.lt.result c.lt.ensures
+    c.is_below.ensures (a.1 ∙ ap width_of e ∙ sym b.0)
     ∙ J.before_same (range_lent c.args.self.now) (range_lent c.args.next.now) e (le_antisymm c.if-next-self-2.false c.if-self-next-2.false)
