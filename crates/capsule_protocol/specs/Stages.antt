@@ -123,7 +123,7 @@ stays_at Escape b = false
 stays_at Boolean b = false
 stays_at Wrong b = false
 
--- the stages that some byte leaves as they are
+-- the stages that a run of bytes leaves as they are: in every other, `stays_at` holds of no byte
 unfoldable pub is_run : Stage → Bool
 is_run Key = true
 is_run Text = true

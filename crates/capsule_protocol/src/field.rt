@@ -1,5 +1,5 @@
 // The field's value.
-ghost use Rattle.std.specs.Prelude.{◌≡◌, true, length};
+ghost use Rattle.std.specs.Prelude.{◌≡◌, true};
 ghost use Rattle.capsule_protocol.specs.Field.{field_of, in_use};
 
 use crate::stages::{Reading, Stage};
@@ -10,15 +10,14 @@ pub const LONGEST: usize = 1024;
 
 // Whether the value says that the Capsule Protocol is in use: an item that is the Boolean true, whatever its
 // parameters. `?0`, a list, another item and what is no structured field at all do not.
-// `?1` alone is tested before the length: it then takes little more than half the time.
 #[tactic(auto, unfolding(crate::specs::Field::field_of))]
 pub fn read_field(value: &[u8]) -> Result<bool, Refusal>
     ensures { result ≡ field_of value.now }
 {
-    if is_plain(value) {
-        Ok(true)
-    } else if value.len() > LONGEST {
+    if value.len() > LONGEST {
         Err(Refusal::FIELD_TOO_LONG)
+    } else if is_plain(value) {
+        Ok(true)
     } else {
         Ok(in_use(value))
     }
@@ -27,8 +26,7 @@ pub fn read_field(value: &[u8]) -> Result<bool, Refusal>
 // `?1` alone, without spaces and parameters.
 #[tactic(auto, using(crate::proofs::Values::plain))]
 fn is_plain(value: &[u8]) -> bool
-    ensures yes { result ≡ true → in_use value.now ≡ true }
-    ensures short { result ≡ true → length value.now ≡ 2 }
+    ensures { result ≡ true → in_use value.now ≡ true }
 {
     matches!(value, [b'?', b'1'])
 }
