@@ -1,6 +1,6 @@
 -- One byte more: what the grammar asks for after it, stage by stage. Assumes nothing.
 use Rattle.walks.proofs.Words.{◌≡◌, refl, sym, ap, ◌∙◌, Bool, true, false, cond, ◌&&◌, ◌||◌, or-false, and-false, and-true, zero-add, false≢true, ℕ, suc, arith, ◌+◌, ◌-◌, List, [], ◌∷◌, length, take, take_all, length-drop, drop, eqb, leb, leb-true, lt-leb, ltb, eqb-true, ltb-false}
-use Rattle.capsule_protocol.proofs.Terms.{Rule, Class, empty, one, every, up_to, ◌then◌, ◌then_many◌, is, is_space, is_lower, is_alpha, is_digit, is_key_start, is_key_byte, is_unescaped, is_escapable, is_token_start, is_token_byte, is_base64, is_bit, sf_integer, sf_decimal, chr, sf_string, sf_token, sf_binary, sf_boolean, bare_item, key, parameters, true_item, in_use, Stage, Reading, Front, Question, Item, Trailing, Semicolon, Key, Equals, Number, Fraction, Text, Escape, Token, Binary, Boolean, Wrong, at, at_if, within, one_more, after_item, after_digits, first_of_bare_item, next_at, rest_of, rest_at, up_to_after, next_of, may_end, may_end_at, Stays, stays_at, is_run, SameRest}
+use Rattle.capsule_protocol.proofs.Terms.{Rule, Class, empty, one, every, up_to, ◌then◌, ◌then_many◌, is, is_space, is_lower, is_alpha, is_digit, is_key_start, is_key_byte, is_unescaped, is_escapable, is_token_start, is_token_byte, is_base64, is_bit, sf_integer, sf_decimal, chr, sf_string, sf_token, sf_binary, sf_boolean, bare_item, key, parameters, true_item, in_use, Stage, Reading, Front, Question, Item, Trailing, Semicolon, Key, Equals, Number, Fraction, Text, Escape, Token, Binary, Boolean, Wrong, at, at_if, within, one_more, after_item, after_digits, first_of_bare_item, next_at, rest_of, rest_at, up_to_after, next_of, may_end, may_end_at, Stays, stays_at, is_run, SameRest, RunsExactly}
 use Rattle.capsule_protocol.proofs.Joining.{front_same, back_same, then_then, then_one, then_every}
 use Rattle.std.specs.List.{prefix_len, IsFirstAndRest}
 use mathlib.Core.Bool.{and-eq-true_iff}
@@ -317,6 +317,24 @@ no_run Token (b ∷ s) e = absurd (false≢true (sym e))
 no_run Binary (b ∷ s) e = absurd (false≢true (sym e))
 no_run Trailing (b ∷ s) e = absurd (false≢true (sym e))
 no_run Front (b ∷ s) e = absurd (false≢true (sym e))
+
+pub runs_exactly : RunsExactly
+unfolding is_run stays_at is_lower is_alpha is_digit is_key_start is_key_byte is_unescaped is_token_start is_token_byte is_base64
+runs_exactly Key = (λ e. (97, refl), λ z. refl)
+runs_exactly Text = (λ e. (97, refl), λ z. refl)
+runs_exactly Token = (λ e. (97, refl), λ z. refl)
+runs_exactly Binary = (λ e. (97, refl), λ z. refl)
+runs_exactly Trailing = (λ e. (32, refl), λ z. refl)
+runs_exactly Front = (λ e. (32, refl), λ z. refl)
+runs_exactly Question = (λ e. absurd (false≢true e), λ z. absurd (false≢true z.1))
+runs_exactly Item = (λ e. absurd (false≢true e), λ z. absurd (false≢true z.1))
+runs_exactly Semicolon = (λ e. absurd (false≢true e), λ z. absurd (false≢true z.1))
+runs_exactly Equals = (λ e. absurd (false≢true e), λ z. absurd (false≢true z.1))
+runs_exactly Number = (λ e. absurd (false≢true e), λ z. absurd (false≢true z.1))
+runs_exactly Fraction = (λ e. absurd (false≢true e), λ z. absurd (false≢true z.1))
+runs_exactly Escape = (λ e. absurd (false≢true e), λ z. absurd (false≢true z.1))
+runs_exactly Boolean = (λ e. absurd (false≢true e), λ z. absurd (false≢true z.1))
+runs_exactly Wrong = (λ e. absurd (false≢true e), λ z. absurd (false≢true z.1))
 
 -- a byte, and the bytes behind it that leave the stage as it is
 module _ (v s t : List ℕ) (b : ℕ) (r q : Reading) (e : in_use v ≡ rest_of (every is_space) r s) (f : IsFirstAndRest s b t) (n : q ≡ next_of r b) where

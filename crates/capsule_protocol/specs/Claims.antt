@@ -6,6 +6,8 @@ use Rattle.refusals.specs.Numbers.{field_too_long}
 use Rattle.capsule_protocol.specs.Bytes.{is, is_digit, is_key_start, is_key_byte, is_unescaped, is_escapable, is_token_start, is_token_byte, is_base64}
 use Rattle.capsule_protocol.specs.Items.{sf_integer, sf_decimal, chr, sf_string, sf_token, sf_binary, sf_boolean, bare_item, key, parameter, parameters, sf_item}
 use Rattle.capsule_protocol.specs.Field.{in_use, field_of}
+use Rattle.capsule_protocol.specs.Stages.{stays_at, is_run}
+use Rattle.capsule_protocol.specs.declared.stages.Stage.{Stage}
 
 abbrev pub spaces : ℕ → List ℕ
 spaces n = replicate n 0x20
@@ -148,3 +150,9 @@ InnerListsAbsent = (i : ℕ) (t : List ℕ) → in_use (spaces i ++ (0x28 ∷ t)
 -- a syntax error: what is no item between spaces
 abbrev pub OnlyItemsInUse : Type 0
 OnlyItemsInUse = (s : List ℕ) → In in_use s → (i : ℕ) × (j : ℕ) × (a : List ℕ) × (s ≡ spaces i ++ (a ++ spaces j)) × In sf_item a
+
+-- ---- the code's stages
+
+-- a stage has a run exactly if some byte leaves it as it is: in Steps
+abbrev pub RunsExactly : Type 0
+RunsExactly = (stage : Stage) → is_run stage ≡ true ↔ ((b : ℕ) × (stays_at stage b ≡ true))
